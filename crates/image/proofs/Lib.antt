@@ -1,0 +1,4 @@
+pub mod Overwriting
+pub mod Moving
+pub mod Laws
+pub mod Rules
