@@ -1,6 +1,7 @@
 // Faults: which question was answered by a no, and where in the text that was.
 ghost use mathlib.Core.Path.{_≡_};
 ghost use Rattle.fault.specs.Numbers.{faultOf, layerOf, numberOf, placeOf};
+use std::error;
 use std::fmt;
 
 // The part of the machine that a question belongs to.
@@ -214,6 +215,8 @@ pub impl fmt::Display for Fault as FaultDisplay {
         write!(f, "fault {number} ({layer}): {reason}, {place}")
     }
 }
+
+pub impl error::Error for Fault as FaultError {}
 
 pub impl fmt::Display for Place as PlaceDisplay {
     fn fmt<W: fmt::Write>(&self, f: &mut fmt::Formatter<W>) -> fmt::Result {

@@ -1,0 +1,79 @@
+// Why a text cannot be a kit.
+ghost use Rattle.fault.specs.Numbers.{faultOf, placeOf};
+ghost use Rattle.fault.specs.declared.Reason.the-variants.{WrongLength};
+ghost use Rattle.std.specs.Options.{Cases as BySome};
+ghost use Rattle.store.specs.Cards.{isTextCard};
+ghost use Rattle.store.specs.Lines.{FirstLongLine};
+ghost use mathlib.Core.Bool.{false, true};
+ghost use mathlib.Core.Path.{_≡_};
+use fault::Fault;
+use fault::FaultDebug;
+use fault::FaultDisplay;
+use std::error;
+use std::fmt;
+use store::TextCard;
+
+// The store's fault, and the line that is too long, counted from 1, if that is the reason.
+#[derive(Clone, Copy, Debug)]
+pub struct KitRefused {
+    fault: Fault,
+    line: Option<usize>,
+}
+
+impl KitRefused {
+    // Refused exactly where the text is no card.
+    pub fn of(text: &[u8]) -> Option<KitRefused>
+        ensures { λ r. ⌜ BySome r (isTextCard (now (text .entry)) ≡ true) (λ k. (isTextCard (now (text .entry)) ≡ false) × (k .fault ≡ faultOf WrongLength (placeOf 0 0 0)) × FirstLongLine (now (text .entry)) (k .line)) ⌝ }
+    {
+        match TextCard::query(text) {
+            Ok(()) => None,
+            Err(fault) => Some(KitRefused {
+                fault,
+                line: store::first_long_line(text),
+            }),
+        }
+    }
+}
+
+pub impl fmt::Display for KitRefused as KitRefusedDisplay {
+    fn fmt<W: fmt::Write>(&self, f: &mut fmt::Formatter<W>) -> fmt::Result {
+        let fault = self.fault;
+        match self.line {
+            Some(index) => {
+                let line = index.saturating_add(1);
+                write!(
+                    f,
+                    "kit refused, nothing written: line {line} has more than 64 bytes; {fault}"
+                )
+            }
+            None => write!(
+                f,
+                "kit refused, nothing written: more than 65535 blocks; {fault}"
+            ),
+        }
+    }
+}
+
+pub impl error::Error for KitRefused as KitRefusedError {}
+
+#[cfg(test)]
+mod tests {
+    use super::*;
+    use std::test::*;
+
+    // A line of 65 bytes is refused by number, and named.
+    #[test]
+    fn long_line(rt: LibcRuntime) -> Result<(), Fail> {
+        let mut text = String::from_str(rt.alloc(), "( first )\n")?;
+        for _ in 0..65 {
+            text.push('x')?;
+        }
+        let refused = KitRefused::of(text.as_bytes())
+            .ok_or("accepted")?
+            .to_string(rt.alloc())?;
+        check_eq(
+            refused.as_str(),
+            "kit refused, nothing written: line 2 has more than 64 bytes; fault 1 (Calls): the lent memory or the card has not the length it must have, before any word",
+        )
+    }
+}

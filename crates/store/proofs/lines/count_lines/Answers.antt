@@ -1,0 +1,27 @@
+use mathlib.Core.Path.{_≡_, ap, _∙_}
+use Prim.Native.Nat.{_<_}
+use native.Mathlib.Omega.{arith}
+use lib.ListN.{length}
+use Rattle.store.specs.Cards.{linesOf}
+use Rattle.store.specs.Cutting.{behindFirst}
+use Rattle.store.proofs.LineLaws.{lines-step, lines-none, behind-shorter}
+use Rattle.store.proofs.lines.count_lines.Needs as need
+
+pub loop-rest-less : need.loop-rest-less
+loop-rest-less c =
+    let h : 0 < length (c .loop-rest .rest .now) = omega arith in
+    let e = ap length (c .behind-first-rest .ensures) in
+    omega (arith, e, behind-shorter (c .loop-rest .rest .now) h)
+
+pub loop-rest-again : need.loop-rest-again
+loop-rest-again c =
+    let h : 0 < length (c .loop-rest .rest .now) = omega arith in
+    let e = ap length (c .behind-first-rest .ensures) in
+    let s = ap length (lines-step (c .loop-rest .rest .now) h) in
+    let m = ap (λ t. length (linesOf t)) (c .behind-first-rest .ensures) in
+    (omega (arith, e, behind-shorter (c .loop-rest .rest .now) h), omega (arith, s, m))
+
+pub returns : need.returns
+returns c =
+    let h : length (c .loop-rest .rest .now) ≡ 0 = omega arith in
+    (omega (arith, ap length (lines-none (c .loop-rest .rest .now) h)), omega arith)

@@ -1,0 +1,5 @@
+pub mod Meaning
+pub mod Cards
+pub mod Soundness
+pub mod Lines
+pub mod Cutting
