@@ -1,0 +1,3 @@
+mod Floored
+mod Reading
+mod Printing
