@@ -11,8 +11,8 @@ use std::fs;
 use store::MemoryCard;
 use store::MemoryCardStore;
 use store::Store;
-use store::TextCard;
-use store::TextCardStore;
+use text_card::TextCard;
+use text_card::TextCardStore;
 
 fn main(rt: LibcRuntime) -> Result<(), AnyError> {
     rt.report(run(&rt))

@@ -2,8 +2,8 @@
 ghost use Rattle.fault.specs.Numbers.{faultOf, placeOf};
 ghost use Rattle.fault.specs.declared.Reason.the-variants.{WrongLength};
 ghost use Rattle.std.specs.Options.{Cases as BySome};
-ghost use Rattle.store.specs.Cards.{isTextCard};
-ghost use Rattle.store.specs.Lines.{FirstLongLine};
+ghost use Rattle.text_card.specs.Texts.{isTextCard};
+ghost use Rattle.text_card.specs.Lines.{FirstLongLine};
 ghost use mathlib.Core.Bool.{false, true};
 ghost use mathlib.Core.Path.{_≡_};
 use fault::Fault;
@@ -11,7 +11,7 @@ use fault::FaultDebug;
 use fault::FaultDisplay;
 use std::error;
 use std::fmt;
-use store::TextCard;
+use text_card::TextCard;
 
 // The store's fault, and the line that is too long, counted from 1, if that is the reason.
 #[derive(Clone, Copy, Debug)]
@@ -29,7 +29,7 @@ impl KitRefused {
             Ok(()) => None,
             Err(fault) => Some(KitRefused {
                 fault,
-                line: store::first_long_line(text),
+                line: text_card::first_long_line(text),
             }),
         }
     }

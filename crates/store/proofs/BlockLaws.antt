@@ -1,15 +1,14 @@
 -- Laws of bytes cut into blocks.
-use Prim.Native.Nat.{ℕ, zero, suc, _+_, _*_, _-_, _/_, _%_, _<_, _≤_}
-use mathlib.Core.Path.{_≡_, refl, sym, ap, _∙_}
-use mathlib.Core.List.{List, [], _∷_, _++_}
-use mathlib.Core.Bool.{Bool, true, false, cond, _&&_}
+use Prim.Native.Nat.{ℕ, zero, suc, _+_, _*_, _-_, _<_, _≤_}
+use mathlib.Core.Path.{_≡_, sym, ap, _∙_}
+use mathlib.Core.List.{List, _∷_, _++_}
+use mathlib.Core.Bool.{true}
 use native.Mathlib.Omega.{arith}
 use borrow.Rule.Slice.PartMut.{putMid}
 use lib.ListN.{length, getD, set, take, drop}
-use lib.Dec.{leb, eqb}
 use Rattle.std.proofs.shelf.Lists.{take-at, drop-at, drop-append-le, drop-take, drop-drop, length-take-le, length-take, length-drop, length-append, getD-take, getD-drop}
 use Rattle.std.proofs.shelf.Parts.{take-putMid-below}
-use Rattle.store.specs.Meaning.{Meaning, block, written}
+use Rattle.store.specs.Meaning.{block, written}
 use Rattle.store.specs.Cards.{BlocksInOrder, blocksOf, cardOf, memoryBlocks, memoryCard, wholeBlocks}
 use Rattle.store.specs.Soundness.{blocks-within, getD-blocksOf, suc-times}
 

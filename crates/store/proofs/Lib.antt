@@ -1,5 +1,1 @@
 pub mod BlockLaws
-pub mod CutLaws
-pub mod LineLaws
-pub mod TextLaws
-pub mod JoinLaws

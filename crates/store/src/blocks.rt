@@ -1,6 +1,5 @@
 // Bytes as blocks: how many there are, where one begins, and reading one.
 ghost use mathlib.Core.Path.{_≡_};
-ghost use mathlib.Core.Bool.{cond, true};
 ghost use Prim.Native.Nat.{_*_, _/_};
 ghost use lib.ListN.{length};
 ghost use Rattle.store.specs.Meaning.{Reads};
@@ -17,7 +16,7 @@ pub(crate) fn whole(n: usize) -> bool
 }
 
 // How many blocks n bytes are; none where they are not whole.
-pub(crate) fn count_blocks(n: usize) -> u16
+pub fn count_blocks(n: usize) -> u16
     ensures { λ r. ⌜ r ≡ wholeBlocks n ⌝ }
 {
     if whole(n) { (n / 1024) as u16 } else { 0 }
@@ -31,7 +30,7 @@ pub(crate) fn block_start(n: u16) -> usize
 }
 
 // Fills `into` with block n of the bytes.
-pub(crate) fn read_block(bytes: &[u8], n: u16, into: &mut [u8], at: Place) -> Result<(), Fault>
+pub fn read_block(bytes: &[u8], n: u16, into: &mut [u8], at: Place) -> Result<(), Fault>
     requires { ⌜ length (now into) ≡ 1024 ⌝ }
     ensures { λ r. ⌜ Reads (memoryCard (now (bytes .entry))) n (now (into .entry)) at r (now (into .exit)) ⌝ }
 {

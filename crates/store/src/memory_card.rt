@@ -1,6 +1,5 @@
 ghost use mathlib.Core.Path.{_≡_};
 ghost use mathlib.Core.Bool.{false, true};
-ghost use lib.ListN.{length};
 ghost use denote.Ref.{now};
 ghost use Rattle.std.specs.Results.{Cases};
 ghost use Rattle.fault.specs.Numbers.{faultOf, placeOf};
@@ -34,6 +33,7 @@ impl<'a> MemoryCard<'a> {
         Err(Fault::new(Reason::WrongLength, Place::nowhere()))
     }
 
+    // The card over these bytes.
     pub fn new(bytes: &'a mut [u8]) -> MemoryCard<'a>
         ensures { λ r. ⌜ now (r .bytes) ≡ now (bytes .entry) ⌝ }
     {

@@ -1,0 +1,4 @@
+pub mod CutLaws
+pub mod JoinLaws
+pub mod LineLaws
+pub mod TextLaws
