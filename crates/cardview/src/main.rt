@@ -1,6 +1,7 @@
 // Puts a kit on a card: reads a kit of text lines, copies it block by block to a card file, reads the card back,
-// compares, and lists the blocks.
+// compares, and lists the blocks. And lists the words that a dictionary has at boot.
 mod listing;
+mod words;
 
 use fault::FaultError;
 use kits::KitRefused;
@@ -14,6 +15,8 @@ use store::Store;
 use text_card::TextCard;
 use text_card::TextCardStore;
 
+const USAGE: &str = "usage: cardview KIT CARD [words], or cardview words";
+
 fn main(rt: LibcRuntime) -> Result<(), AnyError> {
     rt.report(run(&rt))
 }
@@ -21,9 +24,19 @@ fn main(rt: LibcRuntime) -> Result<(), AnyError> {
 fn run(rt: &LibcRuntime) -> Result<(), AnyError> {
     let mut args = env::args(rt)?;
     let _program = args.next();
-    match (args.next(), args.next(), args.next()) {
-        (Some(kit), Some(card), None) => put(rt, kit.as_str(), card.as_str()),
-        _ => Err("usage: cardview KIT CARD".into()),
+    let Some(first) = args.next() else {
+        return Err(USAGE.into());
+    };
+    if first.as_str() == "words" {
+        return words::list_booted(rt);
+    }
+    let Some(card) = args.next() else {
+        return Err(USAGE.into());
+    };
+    put(rt, first.as_str(), card.as_str())?;
+    match args.next() {
+        Some(_words) => words::list_booted(rt),
+        None => Ok(()),
     }
 }
 

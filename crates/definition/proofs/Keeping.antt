@@ -15,7 +15,8 @@ use Rattle.dictionary.specs.declared.registers.Names.{Names}
 use Rattle.dictionary.specs.declared.registers.SearchOrder.{SearchOrder}
 use Rattle.image.specs.Cells.{cellAt}
 use Rattle.dictionary.specs.Dict.{Dict, givenUp}
-use Rattle.dictionary.specs.Search.{Found, missing, broken, hit, searched, searchIn}
+use Rattle.entries.specs.Search.{Found, missing, broken, hit, searchIn}
+use Rattle.dictionary.specs.Search.{searched}
 use Rattle.definition.specs.declared.registers.Buffer.{Buffer}
 use Rattle.definition.specs.declared.registers.Position.{Position}
 use Rattle.definition.specs.Machine.{Machine, ip, blk, dictOf, offset, readingOn, withBlocks}

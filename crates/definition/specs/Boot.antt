@@ -7,36 +7,13 @@ use lib.ListN.{length}
 use Rattle.std.specs.declared.option.Option.the-variants.{None}
 use Rattle.store.specs.Meaning.{Meaning}
 use Rattle.image.specs.Cells.{cell, zeros}
-use Rattle.dictionary.specs.Entries.{forth, spelled, entryBytes, countByte}
-use Rattle.dictionary.specs.Dict.{Dict, defined, joined}
+unfoldable pub use Rattle.kernel.specs.Boot.{bootDict}
 use Rattle.definition.specs.Ranges.{lineStart}
 use Rattle.definition.specs.Machine.{Machine, noStacks}
 use Rattle.definition.specs.Kernel.{Row, stackRows, spaceRows, definingRows, insideRows}
 
 abbrev pub kernel : List Row
 kernel = stackRows ++ (spaceRows ++ (definingRows ++ insideRows))
-
--- FORTH's link cell is 258, its heads 270, its vocabulary link 278; it is its own first entry
-abbrev forthAlone : Dict
-forthAlone =
-    let name = spelled (codes "FORTH") in
-    joined 70 258 (record {
-      low = zeros 256 ++ entryBytes 0 0 (countByte 0 name) name 204 34048 (zeros 10);
-      here = 34048;
-      newest = 258;
-      vocLink = 278;
-      context = forth;
-      current = forth;
-      opened = 0;
-    })
-
--- kernel word n and those behind it, each with its number as its code
-abbrev withKernel : ℕ → List Row → Dict → Dict
-withKernel n [] D = D
-withKernel n (r ∷ rs) D = withKernel (n + 1) rs (defined 0 (r .flags) (spelled (r .name)) n [] D)
-
-unfoldable pub bootDict : Dict
-bootDict = withKernel 1 kernel forthAlone
 
 -- BASE is 10, the buffer has no block
 unfoldable pub boot : Meaning → Machine

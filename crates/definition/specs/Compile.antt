@@ -6,7 +6,7 @@ use lib.Dec.{leb, eqb}
 use lib.ListN.{length, drop}
 use Rattle.fault.specs.declared.Reason.the-variants.{StackUnderflow, BadMark, DictionaryFull}
 use Rattle.image.specs.Cells.{cell}
-use Rattle.dictionary.specs.Entries.{tokenOf}
+use Rattle.entries.specs.Entries.{tokenOf}
 use Rattle.dictionary.specs.Dict.{Dict, appended, patched}
 use Rattle.definition.specs.declared.registers.Kind.{Kind}
 use Rattle.definition.specs.declared.registers.Kind.the-variants.{If, Begin, While, Do}

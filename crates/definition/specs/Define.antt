@@ -6,7 +6,7 @@ use lib.Dec.{leb, eqb}
 use lib.ListN.{length, take}
 use Rattle.fault.specs.declared.Reason.the-variants.{StackUnderflow, BadMark, DictionaryFull, DataFull, BadToken, BelowFence}
 use Rattle.image.specs.Cells.{cell}
-use Rattle.dictionary.specs.Entries.{spelled, bodyOf}
+use Rattle.entries.specs.Entries.{spelled, bodyOf}
 use Rattle.dictionary.specs.Dict.{colonBegun, openJoined, defined, vocabularyDefined, appended, immediateMarked, withCurrent}
 use Rattle.dictionary.specs.Trim.{forgotten}
 use Rattle.definition.specs.Machine.{Machine, dp, here, blk, withHigh, withCompiling, changed}

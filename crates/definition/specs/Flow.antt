@@ -6,7 +6,7 @@ use lib.Dec.{leb, ltb, eqb}
 use lib.ListN.{take, drop}
 use Rattle.fault.specs.declared.Reason.the-variants.{StackUnderflow, StackOverflow, ReturnUnderflow, ReturnOverflow, DictionaryFull, BadToken, NotCreated}
 use Rattle.image.specs.Cells.{at, cell, cellAt}
-use Rattle.dictionary.specs.Entries.{tokenOf, firstAt}
+use Rattle.entries.specs.Entries.{tokenOf, firstAt}
 use Rattle.dictionary.specs.Dict.{appended, doesSet}
 use Rattle.definition.specs.Machine.{Machine, dp, ip, withIp, changed}
 use Rattle.definition.specs.Asked.{Asked, ask, _>>=_, _>>_, if_then_else_, After, quietly, typing}

@@ -6,7 +6,7 @@ use lib.Dec.{leb, eqb}
 use lib.ListN.{length, take, drop, replicate}
 use Rattle.fault.specs.declared.Reason.the-variants.{StackUnderflow, OutOfReach, BadBase, DataFull}
 use Rattle.image.specs.Cells.{at, cell, cellAt, zeros}
-use Rattle.dictionary.specs.Entries.{bodyOf}
+use Rattle.entries.specs.Entries.{bodyOf}
 use Rattle.definition.specs.Machine.{Machine, withHigh, here}
 use Rattle.definition.specs.Asked.{Asked, ask, _>>=_, _>>_, if_then_else_, After, quietly, typing}
 use Rattle.numbers.specs.Cells.{wrap, isNegative, magnitude}

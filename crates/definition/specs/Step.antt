@@ -8,7 +8,7 @@ use Rattle.std.specs.declared.option.Option.the-variants.{Some, None}
 use Rattle.fault.specs.declared.Reason.{Reason}
 use Rattle.fault.specs.declared.Reason.the-variants.{BadName, BadToken}
 use Rattle.image.specs.Cells.{cell}
-use Rattle.dictionary.specs.Entries.{tokenOf, isImmediate}
+use Rattle.entries.specs.Entries.{tokenOf, isImmediate}
 use Rattle.dictionary.specs.Search.{searched}
 use Rattle.definition.specs.declared.registers.Position.{Position}
 use Rattle.definition.specs.Machine.{Machine, ip, blk, reading, dictOf}

@@ -7,7 +7,7 @@ use lib.ListN.{length, take, drop}
 use Rattle.std.specs.declared.option.Option.{Option}
 use Rattle.std.specs.declared.option.Option.the-variants.{Some, None}
 use Rattle.fault.specs.declared.Reason.the-variants.{NothingFollows, BadName, BrokenLink, NotFound}
-use Rattle.dictionary.specs.Search.{Found, missing, broken, hit}
+use Rattle.entries.specs.Search.{Found, missing, broken, hit}
 use Rattle.definition.specs.Machine.{Machine, blk, offset, readingOn}
 use Rattle.definition.specs.Asked.{Asked, refused, given, ask, _>>=_, _>>_, if_then_else_}
 

@@ -6,9 +6,10 @@ use lib.Dec.{leb, ltb, eqb}
 use lib.ListN.{length, getD}
 use Rattle.fault.specs.declared.Reason.the-variants.{BrokenLink, NoDefinition, DefinitionOpen, WordRunning, NoWordRunning, StackUnderflow, StackOverflow, ReturnOverflow, BadToken, Aborted}
 use Rattle.image.specs.Cells.{cellAt}
-use Rattle.dictionary.specs.Entries.{tokenOf}
+use Rattle.entries.specs.Entries.{tokenOf}
 use Rattle.dictionary.specs.Dict.{withContext}
-use Rattle.dictionary.specs.Search.{searched, searchIn}
+use Rattle.entries.specs.Search.{searchIn}
+use Rattle.dictionary.specs.Search.{searched}
 use Rattle.dictionary.specs.Trim.{canForget, isChain, onChain}
 use Rattle.definition.specs.Machine.{Machine, ip, dictOf, changed}
 use Rattle.definition.specs.Asked.{Asked, refused, given, ask, _>>=_, _>>_, if_then_else_, After, quietly}

@@ -1,0 +1,4 @@
+pub mod Orders
+pub mod Growing
+pub mod Changing
+pub mod Beginning

@@ -5,7 +5,7 @@ use Prim.Native.Nat.{ℕ, _+_, _-_, _%_}
 use lib.Dec.{ltb, eqb}
 use lib.ListN.{length, take, set}
 use Rattle.image.specs.Cells.{at, cellAt, cell, setCell, zeros}
-use Rattle.dictionary.specs.Entries.{headAt, entryBytes, firstAt, countByte}
+use Rattle.entries.specs.Entries.{headAt, entryBytes, firstAt, countByte}
 
 -- `low` holds the bytes up to DP; those below 256 are 0 in it. `opened` is the entry that `:` began, or 0.
 pub record Dict : Type 0 where

@@ -4,9 +4,11 @@ use mathlib.Core.List.{List, [], _∷_}
 use Prim.Native.Nat.{ℕ, zero, suc, _+_, _-_, _*_, max}
 use lib.Dec.{leb, ltb, eqb}
 use lib.ListN.{length, take}
+use Rattle.std.specs.declared.option.Option.{Option}
+use Rattle.std.specs.declared.option.Option.the-variants.{Some, None}
 use Rattle.image.specs.Cells.{cellAt, setCell}
-use Rattle.dictionary.specs.Entries.{forth, firstAt, bodyOf}
-use Rattle.dictionary.specs.Search.{inOrder}
+use Rattle.entries.specs.Entries.{forth, bodyOf}
+use Rattle.entries.specs.Search.{inOrder}
 use Rattle.dictionary.specs.Dict.{Dict}
 
 -- the vocabularies from the vocabulary link k down to 0, each by the address of its first head; `fuel` is more than the links can be
@@ -68,58 +70,65 @@ forgotten w D = record {
 
 -- Before the first write: are the links to be walked in order?
 
--- a vocabulary link: its heads at 258 or above, and itself below the four heads of the one before
-abbrev linkInOrder : ℕ → ℕ → Bool
-linkInOrder before k = leb 266 k && leb (k + 10) before
+-- a vocabulary link: its heads at 258 or above, below the one before (at first DP), and whole below DP
+abbrev linkInOrder : ℕ → ℕ → ℕ → Bool
+linkInOrder dp before k = leb 266 k && ltb k before && leb (k + 2) dp
 
-unfoldable pub chainInOrder : ℕ → List ℕ → ℕ → ℕ → Bool
-chainInOrder zero low before k = false
-chainInOrder (suc fuel) low before k =
+unfoldable pub chainInOrder : ℕ → List ℕ → ℕ → ℕ → ℕ → Bool
+chainInOrder zero low dp before k = false
+chainInOrder (suc fuel) low dp before k =
     elim (eqb k 0) [
       | true ↦ true
-      | false ↦ elim (linkInOrder before k) [ false ↦ false | true ↦ chainInOrder fuel low k (cellAt low k) ]
+      | false ↦ elim (linkInOrder dp before k) [ false ↦ false | true ↦ chainInOrder fuel low dp k (cellAt low k) ]
     ]
 
--- the whole chain, whose youngest link ends at or below DP
+-- the whole chain
 abbrev pub isChain : Dict → Bool
-isChain D = let dp = length (D .low) in chainInOrder (suc dp) (D .low) (dp + 8) (D .vocLink)
+isChain D = let dp = length (D .low) in chainInOrder (suc dp) (D .low) dp dp (D .vocLink)
 
--- the entries from link e down to the first below w, which lies wholly below w's beginning
-unfoldable pub fallsInOrder : ℕ → List ℕ → ℕ → ℕ → ℕ → ℕ → Bool
-fallsInOrder zero low dp w before e = false
-fallsInOrder (suc fuel) low dp w before e =
-    elim (eqb e 0) [
-      | true ↦ true
-      | false ↦
-          elim (inOrder low dp before e) [
-            | false ↦ false
-            | true ↦ elim (ltb e w) [ true ↦ leb (firstAt low e + 4) w | false ↦ fallsInOrder fuel low dp w e (cellAt low e) ]
-          ]
-    ]
+-- an entry in order: whole below DP
+abbrev pub ordered : List ℕ → ℕ → ℕ → Bool
+ordered low before e = inOrder low (length low) before e
 
--- the heads k - 1 .. 0 of the vocabulary v
-unfoldable pub vocInOrder : List ℕ → ℕ → ℕ → ℕ → Bool
-vocInOrder low w v zero = true
-vocInOrder low w v (suc k) =
-    let dp = length low in
-    fallsInOrder (suc dp) low dp w dp (cellAt low (v + 2 * k)) && vocInOrder low w v k
+-- the first entry below w from link e down, or nothing if a link on the way is out of order
+unfoldable pub drops : ℕ → List ℕ → ℕ → ℕ → ℕ → Option ℕ
+drops zero low w before e = None
+drops (suc fuel) low w before e =
+    cond (ltb e w) (Some e) (cond (ordered low before e) (drops fuel low w e (cellAt low e)) None)
 
--- does the vocabulary, four heads and its link, lie below w's beginning?
-abbrev isBelow : ℕ → ℕ → Bool
-isBelow w v = leb (v + 12) w
+unfoldable pub fell : List ℕ → ℕ → ℕ → Option ℕ
+fell low w head = drops (suc (length low)) low w (length low) head
 
-unfoldable pub vocsInOrder : List ℕ → ℕ → List ℕ → Bool
-vocsInOrder low w [] = true
-vocsInOrder low w (v ∷ vs) = isBelow w v && vocInOrder low w v 4 && vocsInOrder low w vs
+-- it is none, or an entry in order too
+abbrev pub lands : List ℕ → Option ℕ → Bool
+lands low (Some e) = eqb e 0 || ordered low (length low) e
+lands low None = false
 
--- CURRENT and CONTEXT (where kept) lie wholly below w's beginning, and the chain and every remaining thread are in order
-abbrev pub canForget : ℕ → Dict → Bool
+unfoldable pub fallsAt : List ℕ → ℕ → ℕ → Bool
+fallsAt low w a = lands low (fell low w (cellAt low a))
+
+-- the four heads of the vocabulary v
+unfoldable pub threads : List ℕ → ℕ → ℕ → Bool
+threads low w v = fallsAt low w v && (fallsAt low w (v + 2) && (fallsAt low w (v + 4) && fallsAt low w (v + 6)))
+
+-- The vocabulary with the link k lies below the one before (at first DP). Where it is not named above w, it lies below
+-- w's beginning, and its heads are in order.
+unfoldable pub inChain : List ℕ → ℕ → ℕ → ℕ → Bool
+inChain low w before k = leb 266 k && (leb (k + 2) before && (ltb w (k - 8) || (leb (k + 4) w && threads low w (k - 8))))
+
+-- all vocabularies from the link k down
+unfoldable pub chained : ℕ → List ℕ → ℕ → ℕ → ℕ → Bool
+chained zero low w before k = false
+chained (suc fuel) low w before k = eqb k 0 || (inChain low w before k && chained fuel low w (k - 8) (cellAt low k))
+
+-- w is in order, CURRENT lies below its beginning, CONTEXT too unless it goes, and so does the chain
+unfoldable pub canForget : ℕ → Dict → Bool
 canForget w D =
-    elim (isBelow w (D .current) && (ltb w (D .context) || isBelow w (D .context)) && isChain D)
-    [ true ↦ vocsInOrder (D .low) w (left w (chainOf D)) | false ↦ false ]
+    ordered (D .low) (length (D .low)) w && (leb (D .current + 12) w && ((ltb w (D .context) || leb (D .context + 12) w)
+    && chained (length (D .low) + 1) (D .low) w (length (D .low)) (D .vocLink)))
 
 -- is the vocabulary on the chain?
-abbrev member : ℕ → List ℕ → Bool
+abbrev pub member : ℕ → List ℕ → Bool
 member x [] = false
 member x (y ∷ ys) = eqb x y || member x ys
 

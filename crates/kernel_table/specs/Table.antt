@@ -8,8 +8,8 @@ use lib.ListN.{length, take, drop}
 use Rattle.std.specs.declared.option.Option.the-variants.{None}
 use Rattle.store.specs.Meaning.{Meaning}
 use Rattle.image.specs.Cells.{cell, cellAt, zeros}
-use Rattle.dictionary.specs.Entries.{forth, spelled, nameLength, isImmediate, tokenOf, bodyOf}
-use Rattle.dictionary.specs.Search.{Found, hit, searchIn}
+use Rattle.entries.specs.Entries.{forth, spelled, nameLength, isImmediate, tokenOf, bodyOf}
+use Rattle.entries.specs.Search.{Found, hit, searchIn}
 use Rattle.image.specs.Views.{lowOf}
 use Rattle.definition.specs.declared.registers.Seat.{Seat}
 use Rattle.definition.specs.declared.registers.Shared.{Shared}

@@ -54,7 +54,8 @@ firstAt low e = e + 5 + at low (e + 2) % 32
 abbrev pub bodyOf : List ℕ → ℕ → ℕ
 bodyOf low e = cellAt low (firstAt low e)
 
-abbrev bytesAre : List ℕ → ℕ → List ℕ → Bool
+-- do these bytes lie from a on?
+abbrev pub bytesAre : List ℕ → ℕ → List ℕ → Bool
 bytesAre low a [] = true
 bytesAre low a (b ∷ bs) = elim (eqb (at low a) b) [ true ↦ bytesAre low (a + 1) bs | false ↦ false ]
 

@@ -1,0 +1,15 @@
+pub mod Raw
+pub mod Stack
+pub mod Moves
+pub mod Story
+pub mod CellLaws
+pub mod Spacing
+pub mod Kept
+pub mod Heads
+pub mod Trims
+pub mod Chains
+pub mod Shape
+pub mod Steps
+pub mod Whole
+pub mod Booting
+pub mod Meeting

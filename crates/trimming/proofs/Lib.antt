@@ -1,0 +1,4 @@
+pub mod CellLaws
+pub mod FallLaws
+pub mod ChainLaws
+pub mod TrimLaws
