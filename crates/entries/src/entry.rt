@@ -13,7 +13,14 @@ pub fn byte(image: &[u8], dp: u16, a: u16) -> u8
     requires { ⌜ length (now image) ≡ 65536 ⌝ ∗ ⌜ 256 ≤ a ⌝ ∗ ⌜ a < dp ⌝ }
     ensures { λ r. ⌜ r ≡ at (lowOf dp (now (image .entry))) a ⌝ }
 {
-    image[a as usize]
+    image[index_of(a)]
+}
+
+// Where an address lies in the image.
+fn index_of(a: u16) -> usize
+    ensures { λ r. ⌜ r ≡ a ⌝ }
+{
+    a as usize
 }
 
 // A cell of the dictionary.
