@@ -1,0 +1,4 @@
+pub mod Acting
+pub mod Moves
+pub mod Ends
+pub mod Finishing

@@ -1,0 +1,8 @@
+use Rattle.space_words.proofs.Doing.{decimal-acts}
+use Rattle.space_words.proofs.Ends.{base-done}
+use Rattle.space_words.proofs.space.decimal.Needs as need
+
+pub returns : need.returns
+returns c =
+    let d = base-done (c .args .registers .now) (c .args .image .now) (c .args .cells .now) (c .pre .0) (c .pre .1) 42 10 decimal-acts (c .store .last .image) (c .store .ensures .written) in
+    record { did = d .0; below = d .1 }

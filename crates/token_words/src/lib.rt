@@ -1,0 +1,2 @@
+// Created words and constants, executed by their token, and >BODY.
+pub mod tokens;
