@@ -5,8 +5,9 @@ usage: python3 tools/respell.py [--check]      at the top of the repository; --c
 
 Functions, lemmas, fields and constructors go to snake case; a dash stays only where it joins two functions' names, as in
 `length-spelled`; a lemma that would have a definition's name gets `_lem`; a statement that was spelled with a dash goes to
-camel case, as `Fault-keeps` to `FaultKeeps`. Names that the Rust sources declare, strings, inputs and outputs keep their spelling, and so do the names that the check makes for a
-function's goals and steps. Two old names that would fall together in one file stop the script before it writes anything.
+camel case, as `Fault-keeps` to `FaultKeeps`. Names that the Rust sources declare, strings, inputs and outputs keep their
+spelling, and so do the names that the check makes for a function's goals and steps. Two old names that would fall together
+in one file stop the script before it writes anything.
 """
 
 import os
@@ -25,8 +26,8 @@ MADE = re.compile(r"^(returns|loop|decreases|invariant|overflow|slice-bounds|ind
 LIBRARY = set(
     "length take drop set reverse map replicate append get_or slice_index slice_index_or min max sum cond not put_mid".split()
 )
-# A lemma beside a definition of its own file, and a test that was spelled as a fact.
-BY_HAND = {"all-bytes": "all_bytes_lem", "Tested": "is_tested"}
+# Two lemmas beside a definition of their own file, and a test that was spelled as a fact.
+BY_HAND = {"all-bytes": "all_bytes_lem", "moved_on": "moved_on_lem", "Tested": "is_tested"}
 # Fields of two records, which do not meet.
 OF_TWO_RECORDS = {"voc_link"}
 
@@ -119,7 +120,9 @@ def main():
     if bad or check:
         return 1 if bad else 0
 
-    def turned(text, made):
+    of_rust = {old: new for old, new in table.items() if re.search("[A-Z-]", old)}
+
+    def turned(text, made, table=table):
         """The text with each word of the table turned; in a function's own proof files the names behind its heads stay."""
         out, last = [], 0
         behind = []
@@ -131,6 +134,8 @@ def main():
             if made and len(behind) > 1 and behind[0] in MADE_HEADS:
                 if len(behind) == 2 or (len(behind) == 3 and behind[1] in HOLDERS):
                     stays = True
+            if len(behind) > 1 and behind[0] == "Rattle":
+                stays = True
             out.append(gap)
             out.append(m[0] if stays else table.get(m[0], m[0]))
             last = m.end()
@@ -138,15 +143,16 @@ def main():
         return "".join(out)
 
     def around(text, quiet, made):
+        table_here = of_rust if quiet is QUIET_RUST else table
         out, last = [], 0
         for m in quiet.finditer(text):
-            out.append(turned(text[last : m.start()], made))
+            out.append(turned(text[last : m.start()], made, table_here))
             it = m[0]
             if it.startswith(("--", "//")):
                 it = re.sub(r"`[^`\n]+`", lambda s: turned(s[0], False), it)
             out.append(it)
             last = m.end()
-        out.append(turned(text[last:], made))
+        out.append(turned(text[last:], made, table_here))
         return "".join(out)
 
     count = 0

@@ -16,7 +16,7 @@ use Rattle.definition.specs.Words.{Argument, perform}
 use Rattle.definition.specs.Stacks.{has_cells, nth, popped, pushed}
 use Rattle.definition.specs.Blocks.{saved, brought, do_blocks}
 use Rattle.steps.specs.Seats.{told_by, with_cell_depth}
-use Rattle.steps.specs.Does.{seen, acts, Refuses, Did, OnBlocks}
+use Rattle.steps.specs.Does.{seen, acts, IsRefused, Did, OnBlocks}
 use Rattle.steps.proofs.Exits.{has_cells_lem, lacks_cells, cells-view}
 use Rattle.block_words.specs.Buffers.{Brings}
 use Rattle.block_words.proofs.Views.{Assigned, blocks-view, refuses_on, refuses_at}
@@ -39,8 +39,8 @@ flush_acts again a m = refl
 did-quietly : (x : Asked After) (m : Machine) → x ≡ quietly m → Did x (Ok tt) m
 did-quietly x m p = (record { machine = m; typed = []; news = no_news }, p, refl, refl)
 
-did-refused : (x y : Asked After) (e : Fault) (m : Machine) → x ≡ y → Refuses y e m → Did x (Err e) m
-did-refused x y e m p h = subst (λ z. Refuses z e m) (sym p) h
+did-refused : (x y : Asked After) (e : Fault) (m : Machine) → x ≡ y → IsRefused y e m → Did x (Err e) m
+did-refused x y e m p h = subst (λ z. IsRefused z e m) (sym p) h
 
 -- BLOCK
 abbrev answer : Machine → Asked After

@@ -25,7 +25,7 @@ use Rattle.definition.specs.Text.{buffer_of}
 use Rattle.definition.specs.Space.{stored}
 use Rattle.definition.specs.Blocks.{is_held, written_to, saved, read_from, brought}
 use Rattle.steps.specs.Seats.{told_by}
-use Rattle.steps.specs.Does.{seen, Refuses}
+use Rattle.steps.specs.Does.{seen, IsRefused}
 use Rattle.block_words.specs.Buffers.{Comes, Brings, holding, with_buffer}
 
 yes : (n k : ℕ) → n < k → ltb n k ≡ true
@@ -56,7 +56,7 @@ pub blocks-view : (r r' : Registers) (b : Buffer) (i c t : List ℕ) (k : List M
 blocks-view r r' b i c t k s s' a =
     ap (λ y. view_of y r'.seat (lent i c t k) s') a.shared ∙ ap (λ y. view_of (with_buffer b r.shared) y (lent i c t k) s') a.seat
 
-pub refuses_on : {A B : Type 0} (x : Asked A) (f : A → Asked B) (e : Fault) (m : Machine) → Refuses x e m → Refuses (x >>= f) e m
+pub refuses_on : {A B : Type 0} (x : Asked A) (f : A → Asked B) (e : Fault) (m : Machine) → IsRefused x e m → IsRefused (x >>= f) e m
 refuses_on (refused why m') f e m h = h
 refuses_on (given a) f e m h = absurd h
 
@@ -102,7 +102,7 @@ brought-held m n p = rw p
 brought-not : (m : Machine) (n : ℕ) → is_held n m ≡ false → brought n m ≡ (saved m >>= read_from n)
 brought-not m n p = rw p
 
-pub refuses_at : {A : Type 0} (x : Asked A) (why : Reason) (m m' : Machine) (e : Fault) → x ≡ refused why m → e ≡ fault_of why (told m) → cleared m ≡ cleared m' → Refuses x e m'
+pub refuses_at : {A : Type 0} (x : Asked A) (why : Reason) (m m' : Machine) (e : Fault) → x ≡ refused why m → e ≡ fault_of why (told m) → cleared m ≡ cleared m' → IsRefused x e m'
 refuses_at x why m m' e p q f = rw p (q, f)
 
 -- an updated buffer written out
@@ -131,7 +131,7 @@ module _ (r : Registers) (i : List ℕ) (s : Meaning) where
         ∙ sym (blocks-view r r' b i c t k s s' a))
 
     pub write_refused : (s' : Meaning) (e : Fault) (at : Place) → at ≡ told_by r.seat → (s' ≡ s) × (((s.count ≤ n) × (e ≡ fault_of NoBlock at)) ⊎ ((n < s.count) × (s.writable ≡ false) × (e ≡ fault_of NotWritable at))) → Brings saved r i s (Err e) r i s'
-    write_refused s' e at q h c t k = subst (λ y. Refuses y e (seen r i c t k s')) (sym (writes c t k)) (either h.1)
+    write_refused s' e at q h c t k = subst (λ y. IsRefused y e (seen r i c t k s')) (sym (writes c t k)) (either h.1)
       where
         m : Machine
         m = seen r i c t k s
@@ -139,7 +139,7 @@ module _ (r : Registers) (i : List ℕ) (s : Meaning) where
         same : cleared (seen r i c t k s) ≡ cleared (seen r i c t k s')
         same = ap (λ y. cleared (seen r i c t k y)) (sym h.0)
 
-        either : ((s.count ≤ n) × (e ≡ fault_of NoBlock at)) ⊎ ((n < s.count) × (s.writable ≡ false) × (e ≡ fault_of NotWritable at)) → Refuses (written_to n (seen r i c t k s)) e (seen r i c t k s')
+        either : ((s.count ≤ n) × (e ≡ fault_of NoBlock at)) ⊎ ((n < s.count) × (s.writable ≡ false) × (e ≡ fault_of NotWritable at)) → IsRefused (written_to n (seen r i c t k s)) e (seen r i c t k s')
         either (inl g) = refuses_at (written_to n m) NoBlock m (seen r i c t k s') e (written_beyond m n (no n s.count g.0)) (g.1 ∙ ap (fault_of NoBlock) q) same
         either (inr g) = refuses_at (written_to n m) NotWritable m (seen r i c t k s') e (written_locked m n (yes n s.count g.0) g.1) (g.2 ∙ ap (fault_of NotWritable) q) same
 
@@ -204,7 +204,7 @@ module _ (r : Registers) (i : List ℕ) (s : Meaning) (n : ℕ) where
     brings c t k = brought-not (seen r i c t k s) n (is-held c t k ∙ h)
 
     pub bring_refused : (r' : Registers) (e : Fault) (s' : Meaning) → Brings saved r i s (Err e) r' i s' → Brings (brought n) r i s (Err e) r' i s'
-    bring_refused r' e s' g c t k = subst (λ y. Refuses y e (seen r' i c t k s')) (sym (brings c t k)) (refuses_on (saved (seen r i c t k s)) (read_from n) e (seen r' i c t k s') (g c t k))
+    bring_refused r' e s' g c t k = subst (λ y. IsRefused y e (seen r' i c t k s')) (sym (brings c t k)) (refuses_on (saved (seen r i c t k s)) (read_from n) e (seen r' i c t k s') (g c t k))
 
     pub bring_done : (r' : Registers) (s' : Meaning) (o : Result (Unit {0}) Fault) (r'' : Registers) (i' : List ℕ) → Brings saved r i s (Ok tt) r' i s' → Brings (read_from n) r' i s' o r'' i' s' → Brings (brought n) r i s o r'' i' s'
     bring_done r' s' o r'' i' g f c t k = subst (λ y. Comes y o (seen r'' i' c t k s')) (sym (brings c t k ∙ ap (λ y. y >>= read_from n) (g c t k))) (f c t k)

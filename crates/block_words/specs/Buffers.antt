@@ -8,7 +8,7 @@ use Rattle.definition.specs.declared.registers.Shared.{Shared}
 use Rattle.definition.specs.declared.ranged.Registers.{Registers}
 use Rattle.definition.specs.Machine.{Machine}
 use Rattle.definition.specs.Asked.{Asked, given}
-use Rattle.steps.specs.Does.{seen, Refuses}
+use Rattle.steps.specs.Does.{seen, IsRefused}
 use Rattle.block_words.specs.declared.words.BlockWord.{BlockWord}
 use Rattle.block_words.specs.declared.words.BlockWord.TheVariants.{Block, Update, Flush}
 
@@ -28,7 +28,7 @@ with_buffer b s = record { ends = s.ends; names = s.names; buffer = b }
 -- a call that was to come to a machine answered o and left m'
 abbrev pub Comes : Asked Machine → Result (Unit {0}) Fault → Machine → Type 0
 Comes x (Ok _) m' = x ≡ given m'
-Comes x (Err e) m' = Refuses x e m'
+Comes x (Err e) m' = IsRefused x e m'
 
 -- `f` was done on registers, image and store, whatever the rest of memory holds
 abbrev pub Brings : (Machine → Asked Machine) → Registers → List ℕ → Meaning → Result (Unit {0}) Fault → Registers → List ℕ → Meaning → Type 0

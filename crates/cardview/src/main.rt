@@ -1,5 +1,7 @@
 // Puts a kit on a card: reads a kit of text lines, copies it block by block to a card file, reads the card back,
 // compares, and lists the blocks. And lists the words that a dictionary has at boot.
+#![tactic(auto)]
+
 mod listing;
 mod words;
 
@@ -19,13 +21,13 @@ fn run(rt: &HostRuntime) -> anyhow::Result<()> {
     let mut args = env::args(rt)?;
     let _program = args.next();
     let Some(first) = args.next() else {
-        return Err(USAGE.into());
+        return Err(anyhow!(USAGE));
     };
     if first.as_str() == "words" {
         return words::list_booted(rt);
     }
     let Some(card) = args.next() else {
-        return Err(USAGE.into());
+        return Err(anyhow!(USAGE));
     };
     put(rt, first.as_str(), card.as_str())?;
     match args.next() {

@@ -17,12 +17,12 @@ use Rattle.definition.specs.Kernel.{Asks}
 use Rattle.definition.specs.Words.{Argument, taken, all_asked, perform, do_kernel, row_of, other_word}
 use Rattle.steps.specs.declared.progress.Progress.{Progress}
 use Rattle.steps.specs.declared.progress.Progress.TheVariants.{Went, Full, Finished}
-use Rattle.steps.specs.Does.{seen, acts, does, Refuses, Does, Did, DidType, Grows}
+use Rattle.steps.specs.Does.{seen, acts, does, IsRefused, Does, Did, DidType, Grows}
 use Rattle.codes.specs.Performs.{coded, went_by, Memory, held, Acts}
 
 pub did_by : (f : Machine → Asked After) (m m' : Machine) (o : Result (Unit {0}) Fault) → Does f m o m' → Did (f m) o m'
 did_by f m m' (Ok u) p = (record { machine = m'; typed = []; news = no_news }, p, refl, refl)
-did_by f m m' (Err e) h = subst (λ y. Refuses (f m) e y) (sym h.1) h.0
+did_by f m m' (Err e) h = subst (λ y. IsRefused (f m) e y) (sym h.1) h.0
 
 types_nothing : (x : Asked After) (m m' : Machine) (space : ℕ) (o : Result (Unit {0}) Fault) → Did x o m' → DidType x m space (went_by o) m' []
 types_nothing x m m' space (Ok u) h = (h.0, h.1, h.2, h.3, omega arith)
@@ -109,7 +109,7 @@ asked_yes code t q a again m h =
 
 pub asked_no : (code t : ℕ) (q : Asks) → Asking code (q ∷ []) → (again : ℕ → Machine → Asked After) (m : Machine) (e : Fault) → holds q m ≡ false → e ≡ fault_of (reason_of q) (told m) → Did (coded again code t m) (Err e) m
 asked_no code t q a again m e h p =
-    subst (λ (y : Asked After). Refuses y e m)
+    subst (λ (y : Asked After). IsRefused y e m)
     (sym (asked_first again code t m (q ∷ []) a ∙ one_asked q m (acts code again (bare m) m) ∙ ap (λ b. ask m (reason_of q) b >> acts code again (bare m) m) h))
     (p, refl)
 

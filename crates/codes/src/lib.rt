@@ -1,4 +1,6 @@
 // What the codes of words ask for, and what it means to execute a word by its code.
+#![tactic(auto)]
+
 pub mod code;
 mod progress;
 mod table;

@@ -9,7 +9,7 @@ use definition::ranged::Registers;
 use fault::Fault;
 use steps::cells;
 
-fn left_by_lem(registers: &Registers, word: LeavingWord) -> u16
+fn left_by(registers: &Registers, word: LeavingWord) -> u16
     ensures { result ≡ left_by word registers.now.seat.depths.cells registers.now.shared.ends.here }
 {
     match word {
@@ -29,6 +29,6 @@ pub fn leaving_word(
     requires { length cells.old ≡ 128 }
     ensures { OnCells (leaving_number word) registers.old cells.old result registers.new cells.new }
 {
-    let x = left_by_lem(registers, word);
+    let x = left_by(registers, word);
     cells::leave(registers, cells, x)
 }

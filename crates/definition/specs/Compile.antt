@@ -14,7 +14,6 @@ use Rattle.definition.specs.Kernel.{CompilingWord}
 use Rattle.definition.specs.Boot.{kernel_token}
 use Rattle.definition.specs.Stacks.{pick, nth, popped, has_cells}
 use Rattle.definition.specs.Define.{fits}
-use Rattle.definition.specs.Flow.{in_dictionary}
 
 -- the bytes join the open definition
 abbrev pub appends : List ℕ → Machine → Asked After
@@ -56,17 +55,11 @@ abbrev resolved : List ℕ → Dict → Dict
 resolved [] D = D
 resolved (a ∷ rest) D = resolved rest (patched a (length D.low) D)
 
--- do the cells at these addresses lie in the dictionary?
-abbrev are_cells : List ℕ → Machine → Bool
-are_cells [] m = true
-are_cells (a ∷ rest) m = in_dictionary a 2 m && are_cells rest m
-
 -- a word of a control structure: the marks it takes, the bytes it appends, the cells that learn the address behind them, and the marks it leaves
 abbrev structured : List Kind → List ℕ → List ℕ → List Mark → Machine → Asked After
 structured kinds bs known new m = do
   let marks = new ++ drop (length kinds) m.stacks.marks
   ask m BadMark (are_marks kinds m.stacks.marks)
-  ask m BadMark (are_cells known m)
   ask m BadMark (nat_le (length marks) 32)
   ask m DictionaryFull (fits (length bs) m)
   quietly (with_marks marks (changed (λ D. resolved known (appended bs D)) m))

@@ -6,12 +6,11 @@ use Rattle.entries.specs.Entries.{spelled, body_of}
 use Rattle.dictionary.specs.Dict.{colon_begun, open_joined, defined, vocabulary_defined, appended, immediate_marked, with_current}
 use Rattle.dictionary.specs.Trim.{forgotten}
 use Rattle.definition.specs.Machine.{Machine, dp, here, blk, with_high, with_compiling, changed}
-use Rattle.definition.specs.Asked.{Asked, ask, ◌>>=◌, ◌>>◌, if◌then◌else◌, began, forgot, After, quietly, telling}
+use Rattle.definition.specs.Asked.{Asked, ask, ◌>>=◌, ◌>>◌, began, forgot, After, quietly, telling}
 use Rattle.definition.specs.Kernel
 use Rattle.definition.specs.Kernel.{DefiningWord}
 use Rattle.definition.specs.Boot.{fence, kernel_token}
 use Rattle.definition.specs.Stacks.{nth, popped, has_cells}
-use Rattle.definition.specs.Space.{has_newest}
 
 -- is there dictionary space for n bytes?
 abbrev pub fits : ℕ → Machine → Bool
@@ -53,7 +52,7 @@ do_defining Kernel.vocabulary name w m = do
   ask m DictionaryFull (fits (entry_size name + 10) m)
   beginning m (changed (vocabulary_defined (blk m) (spelled name)) m)
 do_defining Kernel.definitions name w m = quietly (changed (with_current m.order.context) m)
-do_defining Kernel.immediate name w m = quietly (if has_newest m then changed immediate_marked m else m)
+do_defining Kernel.immediate name w m = quietly (changed immediate_marked m)
 do_defining Kernel.forget name w m = do
   let body = body_of m.low w
   ask m BadToken (nat_le 34048 body && nat_le body (here m))

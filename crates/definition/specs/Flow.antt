@@ -10,7 +10,6 @@ use Rattle.numbers.specs.Cells.{wrap, minus, is_negative, magnitude}
 use Rattle.definition.specs.Kernel
 use Rattle.definition.specs.Kernel.{ReturnsWord, InlineWord}
 use Rattle.definition.specs.Stacks.{nth, popped, pushed, has_cells, has_room, nth_return, popped_returns, pushed_returns, has_returns, has_return_room, go_to}
-use Rattle.definition.specs.Space.{has_newest}
 use Rattle.definition.specs.Define.{fits}
 
 -- are the n bytes at a in the dictionary?
@@ -87,7 +86,7 @@ do_inline Kernel.plusLoopR m = ask m StackUnderflow (has_cells 1 m) >> looped (n
 do_inline Kernel.semicolonCode m = do
   ask m ReturnUnderflow (has_returns 1 m)
   let code = cell_at m.low (token_of m.low m.names.newest)
-  ask m NotCreated (has_newest m && (nat_le (first_at m.low m.names.newest + 4) (dp m) && (code == 202 || code == 205)))
+  ask m NotCreated (nat_le (first_at m.low m.names.newest + 4) (dp m) && (code == 202 || code == 205))
   quietly (exited (changed (does_set (ip m)) m))
 do_inline Kernel.typeText m = do
   ask m BadToken (in_dictionary (ip m) 1 m)

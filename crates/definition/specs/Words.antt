@@ -7,7 +7,6 @@ use Rattle.dictionary.specs.Dict.{with_context}
 use Rattle.entries.specs.Search.{search_in}
 use Rattle.dictionary.specs.Search.{searched}
 use Rattle.dictionary.specs.Trim.{can_forget, is_chain, on_chain}
-use Rattle.vocabularies.specs.Seeks.{stays}
 use Rattle.definition.specs.Machine.{Machine, ip, dict_of, changed}
 use Rattle.definition.specs.Asked.{Asked, refused, given, ask, ◌>>=◌, ◌>>◌, if◌then◌else◌, After, quietly}
 use Rattle.definition.specs.Text.{Taken, take_name, take_to, ask_found, ask_there}
@@ -122,12 +121,12 @@ constant_word t m = do
   ask m BadToken (in_dictionary t 6 m)
   replaced 0 (cell_at m.low (t + 4) ∷ []) m
 
--- 204 becomes CONTEXT, if it is on the vocabulary chain and stays where the open entry is given up
+-- 204 becomes CONTEXT, if it is on the vocabulary chain
 abbrev vocabulary_word : ℕ → Machine → Asked After
 vocabulary_word t m = do
   ask m BadToken (in_dictionary t 14 m)
   ask m BrokenLink (is_chain (dict_of m))
-  ask m BadToken (on_chain (t + 4) (dict_of m) && stays (t + 4) (dict_of m))
+  ask m BadToken (on_chain (t + 4) (dict_of m))
   quietly (changed (with_context (t + 4)) m)
 
 -- 205 pushes its body, then enters its DOES> code

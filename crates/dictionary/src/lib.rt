@@ -1,4 +1,6 @@
 // The dictionary: entries, threads and vocabularies, as the bytes of the image up to DP.
+#![tactic(auto)]
+
 mod change;
 mod define;
 mod grow;

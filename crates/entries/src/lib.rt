@@ -1,4 +1,6 @@
 // Reading the dictionary: the entries in a lent image up to DP, and the threads that link them.
+#![tactic(auto)]
+
 mod entry;
 mod thread;
 

@@ -1,4 +1,6 @@
 // Lines typed after boot, and what each does.
+#![tactic(auto)]
+
 ghost use Rattle.std.specs.Prelude.{length, ◌≡◌};
 ghost use Rattle.example_lines.specs.Lines.{LinesStand, lines};
 

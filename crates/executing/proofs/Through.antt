@@ -24,7 +24,7 @@ use Rattle.definition.specs.Stacks.{nth, popped, has_cells}
 use Rattle.definition.specs.Words.{taken, perform, do_kernel, execute_within, execute}
 use Rattle.definition.proofs.Agreeing.{dp_bottom}
 use Rattle.steps.specs.Seats.{told_by, with_cell_depth}
-use Rattle.steps.specs.Does.{seen, Refuses}
+use Rattle.steps.specs.Does.{seen, IsRefused}
 use Rattle.steps.proofs.Exits.{depth_of, has_cells_lem, lacks_cells, cells-view}
 use Rattle.codes.specs.Performs.{coded}
 use Rattle.executing.specs.Tokens.{is_execute, Released, Pops, Through}
@@ -87,9 +87,9 @@ module _ (r : Registers) (i c : List ℕ) (li : length i ≡ 65536) (lc : length
     coded-59 : cell_at (low_of r.shared.ends.dp i) t ≡ 59
     coded-59 = is_59 (cell_at (low_of r.shared.ends.dp i) t) (both (leb 256 t && leb (t + 2) r.shared.ends.dp) (eqb (cell_at (low_of r.shared.ends.dp i) t) 59) x).1
 
-    pub none_to_take : (r' : Registers) (f : Fault) → Pops r c (Err f) r' → (e : List ℕ) (k : List Mark) (s : Meaning) → Refuses (execute t (seen r i c e k s)) f (seen r' i c e k s)
+    pub none_to_take : (r' : Registers) (f : Fault) → Pops r c (Err f) r' → (e : List ℕ) (k : List Mark) (s : Meaning) → IsRefused (execute t (seen r i c e k s)) f (seen r' i c e k s)
     none_to_take r' f h e k s =
-        subst (λ y. Refuses y f (seen r' i c e k s)) (sym (none_left t (seen r i c e k s) (there e k s) coded-59 (lacks_cells r i c e k s lc 1 (omega (arith, h.0)))))
+        subst (λ y. IsRefused y f (seen r' i c e k s)) (sym (none_left t (seen r i c e k s) (there e k s) coded-59 (lacks_cells r i c e k s lc 1 (omega (arith, h.0)))))
         (h.1, ap cleared (sym (same r r' i c e k s h.2 h.3)))
 
     pub took : (r' : Registers) (u : ℕ) → Pops r c (Ok u) r' → (e : List ℕ) (k : List Mark) (s : Meaning) → execute t (seen r i c e k s) ≡ execute u (seen r' i c e k s)

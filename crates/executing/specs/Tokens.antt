@@ -11,7 +11,7 @@ use Rattle.definition.specs.declared.registers.Mark.{Mark}
 use Rattle.definition.specs.declared.ranged.Registers.{Registers}
 use Rattle.definition.specs.Words.{execute}
 use Rattle.steps.specs.Seats.{told_by, with_cell_depth}
-use Rattle.steps.specs.Does.{seen, Refuses}
+use Rattle.steps.specs.Does.{seen, IsRefused}
 
 -- is it the token of EXECUTE, in a dictionary that ends at this DP?
 abbrev pub is_execute : ℕ → List ℕ → ℕ → Bool
@@ -31,4 +31,4 @@ Pops r c (Err e) r' = (r.seat.depths.cells ≡ 0) × (e ≡ fault_of StackUnderf
 -- executing t came to executing u, which is not EXECUTE; or to a refusal
 abbrev pub Through : ℕ → Registers → List ℕ → List ℕ → Result ℕ Fault → Registers → Type 0
 Through t r i c (Ok u) r' = (is_execute r.shared.ends.dp i u ≡ false) × ((e : List ℕ) (k : List Mark) (s : Meaning) → execute t (seen r i c e k s) ≡ execute u (seen r' i c e k s))
-Through t r i c (Err f) r' = (e : List ℕ) (k : List Mark) (s : Meaning) → Refuses (execute t (seen r i c e k s)) f (seen r' i c e k s)
+Through t r i c (Err f) r' = (e : List ℕ) (k : List Mark) (s : Meaning) → IsRefused (execute t (seen r i c e k s)) f (seen r' i c e k s)

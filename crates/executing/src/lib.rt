@@ -1,2 +1,4 @@
 // Executing a token.
+#![tactic(auto)]
+
 mod tokens;

@@ -1,4 +1,6 @@
 // Faults: which question was answered by a no, and where in the text that was.
+#![tactic(auto)]
+
 ghost use Rattle.std.specs.Prelude.{◌≡◌};
 ghost use Rattle.fault.specs.Numbers.{fault_of, layer_of, number_of, place_of};
 

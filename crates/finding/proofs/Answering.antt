@@ -27,7 +27,7 @@ use Rattle.definition.specs.Step
 use Rattle.definition.specs.Step.{word_of, acted}
 use Rattle.definition.proofs.Agreeing.{dp_bottom}
 use Rattle.steps.specs.Seats.{told_by}
-use Rattle.steps.specs.Does.{seen, Refuses}
+use Rattle.steps.specs.Does.{seen, IsRefused}
 use Rattle.seat_dictionary.proofs.Changing.{ReadOff, dict_seen}
 use Rattle.texts.specs.Texts.{word_in}
 use Rattle.finding.specs.declared.word.Word.{Word}
@@ -37,7 +37,7 @@ use Rattle.finding.specs.Kinds.{kind_at}
 use Rattle.finding.proofs.Entering.{Whole, whole-found}
 
 -- a refusal stays one, whatever was to follow
-pub refuses_on : {A B : Type 0} (x : Asked A) (g : A → Asked B) (e : Fault) (m : Machine) → Refuses x e m → Refuses (x >>= g) e m
+pub refuses_on : {A B : Type 0} (x : Asked A) (g : A → Asked B) (e : Fault) (m : Machine) → IsRefused x e m → IsRefused (x >>= g) e m
 refuses_on (refused why m') g e m h = h
 refuses_on (given a) g e m h = absurd h
 
@@ -119,7 +119,7 @@ module _ (r : Registers) (i : List ℕ) (w : List ℕ) (pw : w ≡ word_in r.sea
     pub broken_link : (e : Fault) → Searched (Err e) → KindIs r i (Err e)
     broken_link e f = λ c t k s.
         let m = seen r i c t k s in
-        let P : List ℕ → Type 0 = λ y. Refuses (ask_found m (searched (dict_of m) y)) e m in
+        let P : List ℕ → Type 0 = λ y. IsRefused (ask_found m (searched (dict_of m) y)) e m in
         rw (kind_good (last r i c t k s) named) (refuses_on (ask_found m (searched (dict_of m) (word_in r.seat i))) (λ found. word_of (word_in r.seat i) found m) e m (subst P pw (f c t k s)))
 
     goes_on : (o : Option ℕ) → Searched (Ok o) → (c t : List ℕ) (k : List Mark) (s : Meaning) → classified (last r i c t k s) ≡ word_of (word_in r.seat i) o (seen r i c t k s)

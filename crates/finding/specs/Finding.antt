@@ -11,7 +11,7 @@ use Rattle.definition.specs.Asked.{Asked, given, ask, ◌>>=◌, ◌>>◌, After
 use Rattle.definition.specs.Text.{Taken, is_name, ask_found}
 use Rattle.definition.specs.Step
 use Rattle.definition.specs.Step.{word_of, acted, interpreted}
-use Rattle.steps.specs.Does.{seen, Refuses}
+use Rattle.steps.specs.Does.{seen, IsRefused}
 use Rattle.texts.specs.Texts.{word_in}
 use Rattle.finding.specs.declared.word.Word.{Word}
 use Rattle.finding.specs.declared.word.Word.TheVariants.{Immediate, Plain, Number}
@@ -19,7 +19,7 @@ use Rattle.finding.specs.declared.word.Word.TheVariants.{Immediate, Plain, Numbe
 -- what was asked is answered so, at m
 abbrev pub Answers : {A : Type 0} → Asked A → Result A Fault → Machine → Type 0
 Answers x (Ok a) m = x ≡ given a
-Answers x (Err e) m = Refuses x e m
+Answers x (Err e) m = IsRefused x e m
 
 -- an entry that is found lies in the dictionary
 abbrev pub EntryInside : ℕ → Result (Option ℕ) Fault → Type 0
@@ -47,4 +47,4 @@ meant (Number n) = Step.number n
 -- the kind of the last word taken, or the refusal
 abbrev pub KindIs : Registers → List ℕ → Result Word Fault → Type 0
 KindIs r i (Ok w) = (c t : List ℕ) (k : List Mark) (s : Meaning) → classified (record { machine = seen r i c t k s; bytes = word_in r.seat i }) ≡ given (meant w)
-KindIs r i (Err e) = (c t : List ℕ) (k : List Mark) (s : Meaning) → Refuses (classified (record { machine = seen r i c t k s; bytes = word_in r.seat i })) e (seen r i c t k s)
+KindIs r i (Err e) = (c t : List ℕ) (k : List Mark) (s : Meaning) → IsRefused (classified (record { machine = seen r i c t k s; bytes = word_in r.seat i })) e (seen r i c t k s)

@@ -1,4 +1,6 @@
 // The law of forgetting, over every sequence of changes of a dictionary from boot.
+#![tactic(auto)]
+
 ghost use Rattle.forgetting.specs.Law.{Absorbs, Composes, Forgets};
 ghost use Rattle.std.specs.Prelude.{◌≡◌, nat_le};
 

@@ -1,4 +1,6 @@
 // Bytes and cells of the lent image. A cell lies low byte first.
+#![tactic(auto)]
+
 ghost use Rattle.std.specs.Prelude.{◌≡◌, ◌+◌, ◌*◌, ◌/◌, ◌%◌, ◌^◌, ◌<◌, ◌≤◌, length, replicate, slice_index, slice_set};
 ghost use Rattle.image.specs.Cells.{cell, cell_at, set_cell};
 ghost use Rattle.image.specs.Views.{CarriedByViews, MovedInViews, SeenInViews};

@@ -1,4 +1,6 @@
 // The kernel words, and the dictionary that boot leaves.
+#![tactic(auto)]
+
 ghost use Rattle.std.specs.Prelude.{◌≡◌, ◌+◌, ◌-◌, ◌*◌, ◌%◌, ◌≤◌, true, [], length};
 ghost use Rattle.dictionary.specs.Dict.{defined};
 ghost use Rattle.dictionary.specs.Lent.{Outside, dict_of};

@@ -1,4 +1,6 @@
 // What boot leaves: the kernel words' entries, and the registers.
+#![tactic(auto)]
+
 ghost use Rattle.std.specs.Prelude.{◌≡◌};
 ghost use Rattle.definition.specs.Boot.{fence};
 ghost use Rattle.kernel_table.specs.Table.{boot_seat, boot_shared, Kernel-stands, RegistersBoot};

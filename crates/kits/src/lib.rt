@@ -1,4 +1,6 @@
 // A kit of text lines: why a text cannot be one, how it is copied to a card and compared, and what its blocks hold.
+#![tactic(auto)]
+
 mod copying;
 mod listing;
 mod refusal;

@@ -1,4 +1,6 @@
 // Tests of the leaf crates. They stand here because a crate with tests is proved twice.
+#![tactic(auto)]
+
 ghost use Rattle.std.specs.Prelude.{◌≡◌, nat_lt};
 
 #[cfg(test)]

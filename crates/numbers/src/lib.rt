@@ -1,4 +1,6 @@
 // Numbers: divided, read from text and written as text.
+#![tactic(auto)]
+
 ghost use Rattle.std.specs.Prelude.{◌≡◌, ◌/◌, ◌<◌, ◌≤◌, [], ◌∷◌, length, pos, ◌*ℤ◌, Some};
 ghost use Rattle.numbers.specs.Cells.{is_negative, magnitude, negated, signed_value};
 ghost use Rattle.numbers.specs.Division.{Divides, answered, cell_of, floored, product, signed};

@@ -1,4 +1,6 @@
 // The dictionary that a seat works on: the machine's registers as the dictionary's own, and back.
+#![tactic(auto)]
+
 ghost use Rattle.std.specs.Prelude.{◌≡◌};
 ghost use Rattle.seat_dictionary.specs.Parts.{share_of, seat_with};
 

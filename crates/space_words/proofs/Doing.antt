@@ -1,5 +1,6 @@
 -- How the definition comes to the end of each word on data space, at a machine whose questions are answered.
-use Rattle.std.proofs.Common.{◌≡◌, ℕ, ◌+◌, ◌-◌, ◌%◌, ◌<◌, true, false, [], ◌∷◌, replicate, refl, arith}
+use Rattle.std.proofs.Common.{◌≡◌, ℕ, zero, suc, ◌+◌, ◌-◌, ◌%◌, ◌<◌, ◌≤◌, true, false, List, [], ◌∷◌, ◌++◌, length, get_or, take, drop, set, replicate, sym, refl, ap, ◌∙◌, arith, length-set}
+use Rattle.image.proofs.Moving.{overwritten_byte}
 use Rattle.fault.specs.declared.Reason.TheVariants.{StackUnderflow, OutOfReach}
 use Rattle.image.specs.Cells.{at, cell, cell_at}
 use Rattle.image.specs.Writes.{overwritten, moved_up}
@@ -93,21 +94,24 @@ pub byte_fetched : (m : Machine) → has_cells 1 m ≡ true → in_reach (nth 0 
 byte_fetched m h k = rw (h, k)
 
 pub stored : (m : Machine) → has_cells 2 m ≡ true → in_reach (nth 0 m) 2 m ≡ true → do_space (Kernel.stores 2) m ≡ quietly (with_high (overwritten (nth 0 m - 32768) (cell (nth 1 m)) m.high) (popped 2 m))
-unfolding cell
+unfolding overwritten cell
 stored m h k = rw (h, k)
 
 pub byte_stored : (m : Machine) → has_cells 2 m ≡ true → in_reach (nth 0 m) 1 m ≡ true → do_space (Kernel.stores 1) m ≡ quietly (with_high (overwritten (nth 0 m - 32768) (replicate 1 (nth 1 m % 256)) m.high) (popped 2 m))
-unfolding cell
+unfolding overwritten cell
 byte_stored m h k = rw (h, k)
 
 pub added : (m : Machine) → has_cells 2 m ≡ true → in_reach (nth 0 m) 2 m ≡ true → do_space Kernel.addTo m ≡ quietly (with_high (overwritten (nth 0 m - 32768) (cell (wrap (cell_at m.high (nth 0 m - 32768) + nth 1 m))) m.high) (popped 2 m))
+unfolding overwritten
 added m h k = rw (h, k)
 
 pub filled : (m : Machine) → has_cells 3 m ≡ true → in_reach (nth 2 m) (nth 1 m) m ≡ true → do_space Kernel.fill m ≡ quietly (with_high (overwritten (nth 2 m - 32768) (replicate (nth 1 m) (nth 0 m % 256)) m.high) (popped 3 m))
+unfolding overwritten
 filled m h k = rw (h, k)
 
 -- BASE
 pub base-set : (n : ℕ) (m : Machine) → do_space (Kernel.set_base n) m ≡ quietly (with_high (overwritten 0 (cell n) m.high) m)
+unfolding overwritten
 base-set n m = refl
 
 pub decimal_acts : Acts 42 (Kernel.set_base 10)
@@ -118,6 +122,41 @@ pub hex_acts : Acts 43 (Kernel.set_base 16)
 unfolding perform
 hex_acts again a m = refl
 
--- CMOVE
-pub copied : (m : Machine) → has_cells 3 m ≡ true → in_reach (nth 2 m) (nth 0 m) m ≡ true → in_reach (nth 1 m) (nth 0 m) m ≡ true → do_space Kernel.move m ≡ quietly (with_high (moved_up (nth 0 m) (nth 2 m - 32768) (nth 1 m - 32768) m.high) (popped 3 m))
+-- one byte after the other, the lowest address first, as the definition says it
+abbrev pub moved_on : ℕ → ℕ → ℕ → List ℕ → List ℕ
+moved_on zero from to high = high
+moved_on (suc n) from to high = moved_on n (from + 1) (to + 1) (take (to - 32768) high ++ ((at high (from - 32768) ∷ []) ++ drop (to - 32768 + 1) high))
+
+pub copied : (m : Machine) → has_cells 3 m ≡ true → in_reach (nth 2 m) (nth 0 m) m ≡ true → in_reach (nth 1 m) (nth 0 m) m ≡ true → do_space Kernel.move m ≡ quietly (with_high (moved_on (nth 0 m) (nth 2 m) (nth 1 m) m.high) (popped 3 m))
 copied m h k j = rw (h, k, j)
+
+byte_put : (a : ℕ) (xs : List ℕ) (v : ℕ) → a < length xs → set xs a v ≡ take a xs ++ ((v ∷ []) ++ drop (a + 1) xs)
+unfolding overwritten
+byte_put a xs v h = overwritten_byte a xs v h
+
+-- the first byte moved first
+moved_first : (n from to : ℕ) (xs : List ℕ) → moved_up n (from + 1) (to + 1) (set xs to (get_or xs from 0)) ≡ moved_up (suc n) from to xs
+unfolding moved_up
+moved_first zero from to xs =
+    let e : to + 0 ≡ to = omega arith in
+    let f : from + 0 ≡ from = omega arith in
+    rw (e, f)
+moved_first (suc n) from to xs =
+    let h = moved_first n from to xs in
+    let e : to + 1 + n ≡ to + suc n = omega arith in
+    let f : from + 1 + n ≡ from + suc n = omega arith in
+    ap (λ (ys : List ℕ). set ys (to + 1 + n) (get_or ys (from + 1 + n) 0)) h ∙ rw (e, f)
+
+pub moved_on_lem : (n from to : ℕ) (xs : List ℕ) → 32768 ≤ from → 32768 ≤ to → to - 32768 + n ≤ length xs → moved_on n from to xs ≡ moved_up n (from - 32768) (to - 32768) xs
+unfolding moved_up
+moved_on_lem zero from to xs b d l = refl
+moved_on_lem (suc n) from to xs b d l =
+    let v = at xs (from - 32768) in
+    let e : take (to - 32768) xs ++ ((v ∷ []) ++ drop (to - 32768 + 1) xs) ≡ set xs (to - 32768) v = sym (byte_put (to - 32768) xs v (omega arith)) in
+    let f : from + 1 - 32768 ≡ from - 32768 + 1 = omega arith in
+    let g : to + 1 - 32768 ≡ to - 32768 + 1 = omega arith in
+    ap (moved_on n (from + 1) (to + 1)) e
+    ∙ moved_on_lem n (from + 1) (to + 1) (set xs (to - 32768) v) (omega arith) (omega arith) (simp length-set (omega arith))
+    ∙ ap (λ y. moved_up n y (to + 1 - 32768) (set xs (to - 32768) v)) f
+    ∙ ap (λ y. moved_up n (from - 32768 + 1) y (set xs (to - 32768) v)) g
+    ∙ moved_first n (from - 32768) (to - 32768) xs

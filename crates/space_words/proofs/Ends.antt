@@ -26,7 +26,7 @@ use Rattle.steps.specs.Does.{seen, acts, Does, OnSpace}
 use Rattle.steps.proofs.Exits.{yes, refused-at, has_cells_lem, lacks_cells, has_room_lem, cells-view}
 use Rattle.space_words.specs.Numbers.{reachable}
 use Rattle.space_words.proofs.Written.{Wrote, overwrote, moved_views, reached, reach_is, space-view}
-use Rattle.space_words.proofs.Doing.{Acts, fetch_acts, fetch_byte_acts, store-acts, store_byte_acts, add_acts, fill_acts, copy_acts, takes_of, short, fetch_far, store_far, add_far, fill_far, copy_far, copy_too_far, fetched, byte_fetched, stored, byte_stored, added, filled, base-set, copied}
+use Rattle.space_words.proofs.Doing.{Acts, fetch_acts, fetch_byte_acts, store-acts, store_byte_acts, add_acts, fill_acts, copy_acts, takes_of, short, fetch_far, store_far, add_far, fill_far, copy_far, copy_too_far, fetched, byte_fetched, stored, byte_stored, added, filled, base-set, copied, moved_on_lem}
 
 abbrev deep : Registers → ℕ
 deep r = r.seat.depths.cells

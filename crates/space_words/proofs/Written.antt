@@ -8,7 +8,7 @@ use Rattle.image.specs.Views.{low_of, high_of, line_of}
 use Rattle.image.specs.Writes.{overwritten, moved_up}
 use Rattle.image.proofs.Overwriting.{overwritten-none, take-before}
 use Rattle.image.proofs.Laws.{length_high, low-kept, line_kept, high-within}
-use Rattle.image.proofs.Moving.{low_moved, line_moved, high_moved}
+use Rattle.image.proofs.Moving.{low-moved, line-moved, high-moved}
 use Rattle.definition.specs.declared.registers.Mark.{Mark}
 use Rattle.definition.specs.declared.ranged.Registers.{Registers}
 use Rattle.definition.specs.Machine.{Machine, here, with_high, with_cells}
@@ -17,6 +17,7 @@ use Rattle.definition.specs.Space.{in_reach}
 use Rattle.steps.specs.Seats.{with_cell_depth}
 use Rattle.steps.specs.Does.{seen}
 use Rattle.space_words.specs.Numbers.{reachable}
+use Rattle.space_words.proofs.Doing.{moved_on, moved_on_lem}
 
 -- HERE, and what is in reach
 pub here_is : (r : Registers) (i c t : List ℕ) (k : List Mark) (s : Meaning) → length i ≡ 65536 → here (seen r i c t k s) ≡ r.shared.ends.here
@@ -66,27 +67,28 @@ overwrote r i i' a (x ∷ new) l p e = at (reached a (length (x ∷ new)) r.shar
           below = ap (take 256) e ∙ take-before 256 a (x ∷ new) i (omega (arith, q.0)) (omega arith);
         }
 
-take_moved : (n from to : ℕ) (xs : List ℕ) → 256 ≤ to → take 256 (moved_up n from to xs) ≡ take 256 xs
+take-moved : (n from to : ℕ) (xs : List ℕ) → 256 ≤ to → take 256 (moved_up n from to xs) ≡ take 256 xs
 unfolding moved_up
-take_moved zero from to xs h = refl
-take_moved (suc n) from to xs h = take-set-le 256 (moved_up n from to xs) (to + n) (get_or (moved_up n from to xs) (from + n) 0) (omega arith) ∙ take_moved n from to xs h
+take-moved zero from to xs h = refl
+take-moved (suc n) from to xs h = take-set-le 256 (moved_up n from to xs) (to + n) (get_or (moved_up n from to xs) (from + n) 0) (omega arith) ∙ take-moved n from to xs h
 
 -- bytes moved: the same data space that the definition has
-pub moved_views : (r : Registers) (i i' : List ℕ) (n from to : ℕ) → length i ≡ 65536 → reachable from n r.shared.ends.here ≡ true → reachable to n r.shared.ends.here ≡ true → i' ≡ moved_up n from to i → Wrote r i i' (moved_up n (from - 32768) (to - 32768) (high_of r.shared.ends.here i))
+pub moved_views : (r : Registers) (i i' : List ℕ) (n from to : ℕ) → length i ≡ 65536 → reachable from n r.shared.ends.here ≡ true → reachable to n r.shared.ends.here ≡ true → i' ≡ moved_up n from to i → Wrote r i i' (moved_on n from to (high_of r.shared.ends.here i))
 unfolding moved_up
 moved_views r i i' zero from to l p q e = wrote_nothing r i i' e
 moved_views r i i' (suc n) from to l p q e = at (reached from (suc n) r.shared.ends.here p) (reached to (suc n) r.shared.ends.here q)
   where
-    at : (suc n ≡ 0) ⊎ ((32768 ≤ from) × (from + suc n ≤ r.shared.ends.here)) → (suc n ≡ 0) ⊎ ((32768 ≤ to) × (to + suc n ≤ r.shared.ends.here)) → Wrote r i i' (moved_up (suc n) (from - 32768) (to - 32768) (high_of r.shared.ends.here i))
+    at : (suc n ≡ 0) ⊎ ((32768 ≤ from) × (from + suc n ≤ r.shared.ends.here)) → (suc n ≡ 0) ⊎ ((32768 ≤ to) × (to + suc n ≤ r.shared.ends.here)) → Wrote r i i' (moved_on (suc n) from to (high_of r.shared.ends.here i))
     at (inl z) _ = absurd (omega (arith, z))
     at (inr y) (inl z) = absurd (omega (arith, z))
     at (inr y) (inr z) =
         let f : to + suc n ≤ length i = omega (arith, r.limit, z.1) in
+        let lh : length (high_of r.shared.ends.here i) ≡ r.shared.ends.here - 32768 = length_high r.shared.ends.here i (omega (arith, r.limit)) in
         record {
-          low = ap (low_of r.shared.ends.dp) e ∙ low_moved (suc n) from to r.shared.ends.dp i f (omega (arith, r.top, z.0));
-          line = ap line_of e ∙ line_moved (suc n) from to i f (omega (arith, z.0));
-          high = ap (high_of r.shared.ends.here) e ∙ high_moved (suc n) from to r.shared.ends.here i y.0 y.1 z.0 z.1 (omega (arith, r.limit));
-          below = ap (take 256) e ∙ take_moved (suc n) from to i (omega (arith, z.0));
+          low = ap (low_of r.shared.ends.dp) e ∙ low-moved (suc n) from to r.shared.ends.dp i f (omega (arith, r.top, z.0));
+          line = ap line_of e ∙ line-moved (suc n) from to i f (omega (arith, z.0));
+          high = ap (high_of r.shared.ends.here) e ∙ high-moved (suc n) from to r.shared.ends.here i y.0 y.1 z.0 z.1 (omega (arith, r.limit)) ∙ sym (moved_on_lem (suc n) from to (high_of r.shared.ends.here i) y.0 z.0 (omega (arith, z.0, z.1, lh)));
+          below = ap (take 256) e ∙ take-moved (suc n) from to i (omega (arith, z.0));
         }
 
 -- the machine behind a change of data cells and data space

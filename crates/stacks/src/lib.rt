@@ -1,5 +1,7 @@
 // Stack moves over a lent slice of any copied element. The caller keeps the depth; the stack is the
 // first `depth` elements, its top the last of them, and what lies behind them is free.
+#![tactic(auto)]
+
 ghost use Rattle.std.specs.Prelude.{◌≡◌, ◌+◌, ◌-◌, ◌^◌, ◌<◌, ◌≤◌, ◌∷◌, length, drop, slice_index_or};
 ghost use Rattle.stacks.specs.Stack.{rolled, stack_of};
 

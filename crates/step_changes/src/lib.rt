@@ -1,4 +1,6 @@
 // What a step does to the dictionary, and the law of forgetting over every history from boot.
+#![tactic(auto)]
+
 ghost use Rattle.std.specs.Prelude.{◌≡◌, not, ◌==◌, nat_lt};
 ghost use Rattle.step_changes.specs.Laws.{StepChanges, StepForgets, Story-told, CallsInMoments, SteadyAlways, CompilesOpen, MarksInside};
 

@@ -22,7 +22,7 @@ abbrev pub acts : ℕ → (ℕ → Machine → Asked After) → Argument → Mac
 acts n again a m = perform again (row_of n).action a m
 
 -- the answer is the fault e: its reason, told at a machine of which a fault leaves the same as of m
-abbrev pub Refuses : {A : Type 0} → Asked A → Fault → Machine → Type 0
+abbrev pub Refuses : Asked After → Fault → Machine → Type 0
 Refuses (refused why m') e m = (e ≡ fault_of why (told m')) × (cleared m' ≡ cleared m)
 Refuses (given a) e m = ⊥
 
@@ -31,17 +31,22 @@ abbrev pub Does : (Machine → Asked After) → Machine → Result (Unit {0}) Fa
 Does f m (Ok _) m' = f m ≡ quietly m'
 Does f m (Err e) m' = Refuses (f m) e m × (m' ≡ m)
 
+-- the same of any answer that is asked for
+abbrev pub IsRefused : {A : Type 0} → Asked A → Fault → Machine → Type 0
+IsRefused (refused why m') e m = (e ≡ fault_of why (told m')) × (cleared m' ≡ cleared m)
+IsRefused (given a) e m = ⊥
+
 -- The same for what takes words from the text or writes a buffer out: x was to be answered, and a fault leaves what it leaves of m'.
 abbrev pub Did : Asked After → Result (Unit {0}) Fault → Machine → Type 0
 Did x (Ok _) m' = (a : After) × (x ≡ given a) × (a.machine ≡ m') × (a.typed ≡ [])
-Did x (Err e) m' = Refuses x e m'
+Did x (Err e) m' = IsRefused x e m'
 
 -- The same for what types: `space` bytes were left and `new` was typed. Where they would not fit, all is as it was.
 abbrev pub DidType : Asked After → Machine → ℕ → Result Progress Fault → Machine → List ℕ → Type 0
 DidType x m space (Ok Went) m' new = (a : After) × (x ≡ given a) × (a.machine ≡ m') × (a.typed ≡ new) × (length new ≤ space)
 DidType x m space (Ok Full) m' new = (a : After) × (x ≡ given a) × (space < length a.typed) × (m' ≡ m) × (new ≡ [])
 DidType x m space (Ok Finished) m' new = ⊥
-DidType x m space (Err e) m' new = Refuses x e m' × (new ≡ [])
+DidType x m space (Err e) m' new = IsRefused x e m' × (new ≡ [])
 
 -- n bytes of the output were typed; then n' are, the last of them `new`
 abbrev pub Grows : List ℕ → ℕ → List ℕ → List ℕ → ℕ → Type 0

@@ -1,4 +1,6 @@
 // Block stores: what a store means, and a memory card over lent bytes.
+#![tactic(auto)]
+
 mod blocks;
 mod memory_card;
 

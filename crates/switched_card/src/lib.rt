@@ -1,4 +1,6 @@
 // A card with a write-protect switch, over any other store.
+#![tactic(auto)]
+
 ghost use Rattle.std.specs.Prelude.{◌≡◌, false};
 ghost use Rattle.switched_card.specs.Switch.{switched, switched-sound};
 

@@ -1,4 +1,6 @@
 // A card over lines of text, sixteen lines a block, not writable.
+#![tactic(auto)]
+
 mod card;
 mod lines;
 

@@ -6,7 +6,7 @@ use Rattle.definition.specs.declared.registers.Mark.{Mark}
 use Rattle.definition.specs.declared.ranged.Registers.{Registers}
 use Rattle.definition.specs.Asked.{given}
 use Rattle.definition.specs.Text.{take_name}
-use Rattle.steps.specs.Does.{seen, Refuses}
+use Rattle.steps.specs.Does.{seen, IsRefused}
 use Rattle.texts.specs.declared.name.Name.{Name}
 
 -- a byte of a name
@@ -19,4 +19,4 @@ name_of n = take n.count n.bytes
 -- a name was taken, or refused
 abbrev pub TookName : Registers → List ℕ → Result Name Fault → Registers → Type 0
 TookName r i (Ok n) r' = (c t : List ℕ) (k : List Mark) (s : Meaning) → take_name (seen r i c t k s) ≡ given (record { machine = seen r' i c t k s; bytes = name_of n })
-TookName r i (Err e) r' = (c t : List ℕ) (k : List Mark) (s : Meaning) → Refuses (take_name (seen r i c t k s)) e (seen r' i c t k s)
+TookName r i (Err e) r' = (c t : List ℕ) (k : List Mark) (s : Meaning) → IsRefused (take_name (seen r i c t k s)) e (seen r' i c t k s)

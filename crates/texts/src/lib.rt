@@ -1,4 +1,6 @@
 // Words and strings taken from the text: the line, or the block buffer.
+#![tactic(auto)]
+
 pub mod name;
 pub mod names;
 mod scanning;

@@ -1,4 +1,6 @@
 // Trimming the dictionary at an entry: what FORGET does.
+#![tactic(auto)]
+
 mod chain;
 mod forgetting;
 mod heads;

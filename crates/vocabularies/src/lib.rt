@@ -1,4 +1,6 @@
 // Vocabularies: the chain of them, from VOC-LINK down.
+#![tactic(auto)]
+
 ghost use Rattle.std.specs.Prelude.{◌≡◌, ◌+◌, ◌-◌, ◌≤◌, ◌&&◌, ◌||◌, length, ◌==◌, nat_le};
 ghost use Rattle.dictionary.specs.Kept.{kept_end};
 ghost use Rattle.dictionary.specs.Lent.{Did, dict_of};

@@ -7,6 +7,6 @@ pub returns : goal.returns
 returns c =
     let end = c.args.end in
     let bytes = c.args.bytes.now in
-    let n : c.behind-new-end.result - end ≡ length bytes = omega arith in
-    let e = overwritten_part end (c.behind-new-end.result - end) c.args.image.now c.copy-from-slice.new.self bytes c.copy-from-slice.ensures.after n in
-    record { behind = c.behind-new-end.ensures; written = e; views = carried end bytes c.args.image.now c.requires _ e }
+    let n : c.behind-new_end.result - end ≡ length bytes = omega arith in
+    let e = overwritten_part end (c.behind-new_end.result - end) c.args.image.now c.copy_from_slice.new.self bytes c.copy_from_slice.ensures.after n in
+    record { behind = c.behind-new_end.ensures; written = e; views = carried end bytes c.args.image.now c.requires _ e }

@@ -9,7 +9,7 @@ loop-i-init c = refl
 
 pub loop-i-preserved : goal.loop-i-preserved
 unfolding moved_up
-loop-i-preserved c = c.copy-byte.ensures ∙ rw add-one (ap (λ s. set s (c.args.to + c.loop-i.i) (get_or s (c.args.from + c.loop-i.i) 0)) c.loop-i.invariant)
+loop-i-preserved c = c.copy_byte.ensures ∙ rw add-one (ap (λ s. set s (c.args.to + c.loop-i.i) (get_or s (c.args.from + c.loop-i.i) 0)) c.loop-i.invariant)
 
 pub returns : goal.returns
 returns c =

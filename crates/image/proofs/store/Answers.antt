@@ -9,7 +9,7 @@ unfolding set_cell cell
 returns c =
     let at = c.args.at in
     let xs = c.args.image.now in
-    let put = ap (λ v. set (set xs at v) (at + 1) c.high-byte.result) c.low-byte.ensures ∙ ap (set (set xs at _) (at + 1)) c.high-byte.ensures in
+    let put = ap (λ v. set (set xs at v) (at + 1) c.high_byte.result) c.low_byte.ensures ∙ ap (set (set xs at _) (at + 1)) c.high_byte.ensures in
     let e = put ∙ overwritten-cell at xs c.args.x c.requires in
     let h : at + 2 ≤ length xs = omega arith in
     record { after = put; written = e; views = carried at (cell c.args.x) xs h _ e }

@@ -5,13 +5,13 @@ use Rattle.kernel.specs.Bytes.{rows_in, is_table, all_below128}
 use Rattle.kernel.proofs.Loads.{booted}
 use Rattle.kernel.proofs.boot.Goals as goal
 
-pub kernel-words-requires : goal.kernel-words-requires
+pub kernel_words-requires : goal.kernel_words-requires
 unfolding is_table all_below128
-kernel-words-requires c = (omega arith, (omega (arith, c.forth-alone-d.ensures.dp), refl))
+kernel_words-requires c = (omega arith, (omega (arith, c.forth_alone-d.ensures.dp), refl))
 
 pub returns : goal.returns
 unfolding rows_in kernel
 returns c = record {
-  made = c.kernel-words.ensures.made ∙ booted _ _ refl c.forth-alone-d.ensures.made;
-  rest = outside_then c.forth-alone-d.ensures.rest c.kernel-words.ensures.rest;
+  made = c.kernel_words.ensures.made ∙ booted _ _ refl c.forth_alone-d.ensures.made;
+  rest = outside_then c.forth_alone-d.ensures.rest c.kernel_words.ensures.rest;
 }

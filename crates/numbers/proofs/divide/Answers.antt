@@ -6,7 +6,7 @@ use Rattle.numbers.proofs.divide.Goals as goal
 
 pub returns : goal.returns
 returns c =
-    let e : c.divide-size.result ≡ answered (floored (signed c.args.a) (signed c.args.b)) = search rules in
+    let e : c.divide_size.result ≡ answered (floored (signed c.args.a) (signed c.args.b)) = search rules in
     record {
       divided = subst (Divides (signed_value c.args.a) (signed_value c.args.b)) (sym e) (cells c.args.a c.args.b (omega arith) (omega arith));
       defined = e;

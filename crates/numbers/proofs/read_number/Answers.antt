@@ -10,11 +10,11 @@ pub returns-in-45 : goal.returns-in-45
 returns-in-45 c =
     let e : c.negative.result ≡ number_in c.args.base c.args.text.now =
     c.negative.ensures
-    ∙ ap (up_to 32768 negated) (c.read-digits.ensures ∙ ap (λ bs. in_cell (magnitude_of c.args.base bs)) (take_rest c.args.text.now 1))
+    ∙ ap (up_to 32768 negated) (c.read_digits.ensures ∙ ap (λ bs. in_cell (magnitude_of c.args.base bs)) (take_rest c.args.text.now 1))
     ∙ minus_read c.args.base c.args.text.now (grind (arith, nat_tests)) in
     record { reads = reads_as c.args.base c.args.text.now _ e; defined = e }
 
-pub returns-in-default : goal.returns-in-default
-returns-in-default c =
-    let e : c.read-digits-in-default.result ≡ number_in c.args.base c.args.text.now = search rules in
+pub returns-in_default : goal.returns-in_default
+returns-in_default c =
+    let e : c.read_digits-in_default.result ≡ number_in c.args.base c.args.text.now = search rules in
     record { reads = reads_as c.args.base c.args.text.now _ e; defined = e }

@@ -4,6 +4,6 @@ use Rattle.stacks.proofs.drop_top.Goals as goal
 
 pub returns : goal.returns
 returns g c = record {
-  depth = c.depth-without.ensures;
+  depth = c.depth_without.ensures;
   stack = sym (drop_stack c.args.depth c.args.cells.now c.args.n c.requires.0 c.requires.1);
 }

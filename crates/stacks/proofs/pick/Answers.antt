@@ -5,7 +5,7 @@ use Rattle.stacks.proofs.pick.Goals as goal
 
 pub returns : goal.returns
 returns g c = λ z.
-    let h : c.place-of-at.result < length c.args.cells.now = omega arith in
+    let h : c.place_of-at.result < length c.args.cells.now = omega arith in
     get_or_read _ _ _ h c.index-cells-at.is z
-    ∙ ap (λ i. get_or c.args.cells.now i z) c.place-of-at.ensures
+    ∙ ap (λ i. get_or c.args.cells.now i z) c.place_of-at.ensures
     ∙ sym (get_or_stack c.args.depth c.args.cells.now c.args.k z c.requires.0 c.requires.1)

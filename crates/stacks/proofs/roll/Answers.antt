@@ -3,5 +3,5 @@ use Rattle.stacks.proofs.roll.Goals as goal
 
 pub returns : goal.returns
 returns g c = λ z.
-    stack_roll-at c.args.depth c.args.k c.place-of-at.result c.args.cells.now c.rotate-left.new.self z
-    c.place-of-at.ensures c.requires.0 c.requires.1 c.rotate-left.ensures.after
+    stack_roll-at c.args.depth c.args.k c.place_of-at.result c.args.cells.now c.rotate_left.new.self z
+    c.place_of-at.ensures c.requires.0 c.requires.1 c.rotate_left.ensures.after

@@ -5,4 +5,4 @@ use Rattle.step_changes.proofs.Telling.{story-told}
 use Rattle.step_changes.proofs.stands.Goals as goal
 
 pub returns : goal.returns
-returns c = record { answer = c.is-older.ensures; changes = step_changes; calls = calls_in_moments; forgets = step-forgets; told = story-told }
+returns c = record { answer = c.is_older.ensures; changes = step_changes; calls = calls_in_moments; forgets = step-forgets; told = story-told }

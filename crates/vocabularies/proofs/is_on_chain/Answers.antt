@@ -8,42 +8,42 @@ use Rattle.vocabularies.proofs.is_on_chain.Goals as goal
 pub chain-init : goal.chain-init
 chain-init c = (omega arith, walking_start (dict_of c.args.d.now c.args.image.now) c.args.d.now.ends.dp c.args.vocabulary (length-low c.args.d.now.ends.dp c.args.image.now (omega arith) (omega arith)))
 
-pub returns-in-err-k : goal.returns-in-err-k
-returns-in-err-k c =
-    let b = link_broken c.args.told c.args.d.now.ends.dp c.chain.before c.chain.link c.in-err-k.field-0.0 c.in-err-k.ensures in
-    let p = err_from_is_err_and c.from-residual.result c.from-residual.ensures.1 in
-    asked_broken c.args.vocabulary c.args.told (dict_of c.args.d.now c.args.image.now) _ p.0 c.in-err-k.field-0.0 (walking_broken _ _ _ _ _ _ _ _ c.chain.invariant.1 b.1 b.2) b.0 p.1 p.2
+pub returns-in_err-k : goal.returns-in_err-k
+returns-in_err-k c =
+    let b = link_broken c.args.told c.args.d.now.ends.dp c.chain.before c.chain.link c.in_err-k.field-0.0 c.in_err-k.ensures in
+    let p = err_from_is_err_and c.from_residual.result c.from_residual.ensures.1 in
+    asked_broken c.args.vocabulary c.args.told (dict_of c.args.d.now c.args.image.now) _ p.0 c.in_err-k.field-0.0 (walking_broken _ _ _ _ _ _ _ _ c.chain.invariant.1 b.1 b.2) b.0 p.1 p.2
 
-pub found-now-found-requires : goal.found-now-found-requires
-found-now-found-requires c =
-    let w = c.in-ok-k.was in
+pub found_now-found-requires : goal.found_now-found-requires
+found_now-found-requires c =
+    let w = c.in_ok-k.was in
     let s = link_some c.args.told c.args.d.now.ends.dp c.chain.before c.chain.link c.in-Some.k (cc) in
     let p = link_parts c.args.d.now.ends.dp c.chain.before c.chain.link s.2 in
     omega arith
 
 pub cell-link-requires : goal.cell-link-requires
 cell-link-requires c =
-    let w = c.in-ok-k.was in
+    let w = c.in_ok-k.was in
     let s = link_some c.args.told c.args.d.now.ends.dp c.chain.before c.chain.link c.in-Some.k (cc) in
     let p = link_parts c.args.d.now.ends.dp c.chain.before c.chain.link s.2 in
     (c.requires, (omega arith, omega arith))
 
 pub chain-smaller : goal.chain-smaller
 chain-smaller c =
-    let w = c.in-ok-k.was in
+    let w = c.in_ok-k.was in
     let s = link_some c.args.told c.args.d.now.ends.dp c.chain.before c.chain.link c.in-Some.k (cc) in
     let p = link_parts c.args.d.now.ends.dp c.chain.before c.chain.link s.2 in
     omega arith
 
 pub chain-preserved : goal.chain-preserved
 chain-preserved c =
-    let w = c.in-ok-k.was in
+    let w = c.in_ok-k.was in
     let s = link_some c.args.told c.args.d.now.ends.dp c.chain.before c.chain.link c.in-Some.k (cc) in
     let p = link_parts c.args.d.now.ends.dp c.chain.before c.chain.link s.2 in
-    (omega arith, walking_more _ _ _ _ c.chain.link c.in-Some.k _ _ _ _ _ c.chain.invariant.1 s.0 s.1 s.2 c.found-now-found.ensures c.cell-link.ensures)
+    (omega arith, walking_more _ _ _ _ c.chain.link c.in-Some.k _ _ _ _ _ c.chain.invariant.1 s.0 s.1 s.2 c.found_now-found.ensures c.cell-link.ensures)
 
 pub returns : goal.returns
 returns c =
-    let w = c.in-ok-k.was in
+    let w = c.in_ok-k.was in
     let z = link_none c.args.told c.args.d.now.ends.dp c.chain.before c.chain.link (cc) in
     asked_found c.args.vocabulary c.args.told (dict_of c.args.d.now c.args.image.now) c.chain.found (walking_end _ _ _ _ _ _ _ _ c.chain.invariant.1 z)

@@ -6,10 +6,10 @@ use Rattle.image.proofs.Overwriting.{overwritten_part}
 use Rattle.block_words.proofs.Views.{read_refused, read_done, below_same, put_back, long}
 use Rattle.block_words.proofs.bringing.read_in.Goals as goal
 
-pub returns-in-err-read : goal.returns-in-err-read
-returns-in-err-read g c =
-    let p = err_from_is_err_and c.from-residual.result c.from-residual.ensures.1 in
-    let h = c.in-err-read.ensures in
+pub returns-in_err-read : goal.returns-in_err-read
+returns-in_err-read g c =
+    let p = err_from_is_err_and c.from_residual.result c.from_residual.ensures.1 in
+    let h = c.in_err-read.ensures in
     let same = put_back 33024 1024 c.args.image.now c.read.new.into (omega (arith, c.requires)) h.2 in
     record {
       did = rw (p.1, p.2) (read_refused c.args.registers.now c.args.image.now (g.S.Store.means c.args.store.now) c.args.n _ _ h.0 (h.1 ∙ ap (fault_of NoBlock) c.place-at.ensures) same);
@@ -19,7 +19,7 @@ returns-in-err-read g c =
 
 pub returns : goal.returns
 returns g c =
-    let h = c.in-ok-read.ensures in
+    let h = c.in_ok-read.ensures in
     let l : length c.read.new.into ≡ 1024 = c.read.auto.into ∙ long 33024 1024 c.args.image.now (omega (arith, c.requires)) in
     let e = overwritten_part 33024 1024 c.args.image.now c.read.new.into c.read.new.into refl (omega (arith, l)) in
     record {

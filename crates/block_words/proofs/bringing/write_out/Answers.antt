@@ -3,17 +3,17 @@ use Rattle.std.proofs.lemmas.Result.{err_from_is_err_and}
 use Rattle.block_words.proofs.Views.{not_updated, none-held, wrote, write_refused}
 use Rattle.block_words.proofs.bringing.write_out.Goals as goal
 
-pub returns-in-err-write : goal.returns-in-err-write
-returns-in-err-write g c =
-    let p = err_from_is_err_and c.from-residual.result c.from-residual.ensures.1 in
+pub returns-in_err-write : goal.returns-in_err-write
+returns-in_err-write g c =
+    let p = err_from_is_err_and c.from_residual.result c.from_residual.ensures.1 in
     record {
-      did = rw (p.1, p.2) (write_refused c.args.registers.now c.args.image.now (g.S.Store.means c.args.store.now) c.in-Some.n c.if-not-registers.false c.in-Some.is _ _ _ c.place.ensures c.in-err-write.ensures);
+      did = rw (p.1, p.2) (write_refused c.args.registers.now c.args.image.now (g.S.Store.means c.args.store.now) c.in-Some.n c.if-not-registers.false c.in-Some.is _ _ _ c.place.ensures c.in_err-write.ensures);
       seat = refl;
     }
 
 pub returns : goal.returns
 returns g c =
-    let h = c.in-ok-write.ensures in
+    let h = c.in_ok-write.ensures in
     record {
       did = wrote c.args.registers.now c.args.image.now (g.S.Store.means c.args.store.now) c.in-Some.n c.if-not-registers.false c.in-Some.is c.assign.new.registers c.fresh.result _ h.0 h.1 h.2 c.fresh.ensures (record { shared = c.assign.ensures.shared; seat = c.assign.ensures.seat });
       seat = c.assign.ensures.seat;

@@ -6,21 +6,21 @@ use Rattle.data_words.proofs.Ends.{cells-short}
 use Rattle.data_words.proofs.Finishing.{scaled_not, scaled_done}
 use Rattle.data_words.proofs.dividing.times_slash.Goals as goal
 
-pub returns-in-err-need : goal.returns-in-err-need
-returns-in-err-need c =
-    let p = err_from_is_err_and c.from-residual.result c.from-residual.ensures.1 in
-    let h = c.in-err-need.ensures in
+pub returns-in_err-need : goal.returns-in_err-need
+returns-in_err-need c =
+    let p = err_from_is_err_and c.from_residual.result c.from_residual.ensures.1 in
+    let h = c.in_err-need.ensures in
     rw (p.1, p.2) (cells-short 16 Kernel.scale times_slash_acts c.args.registers.now c.args.cells.now _ c.requires (omega arith) h.0 h.1)
 
-pub returns-in-err-pair : goal.returns-in-err-pair
-returns-in-err-pair c =
-    let p = err_from_is_err_and c.from-residual-in-err-pair.result c.from-residual-in-err-pair.ensures.1 in
-    let h = c.in-err-pair.ensures in
-    rw (p.1, p.2) (scaled_not c.args.registers.now c.args.cells.now c.requires c.cell-first.result c.cell-second.result c.cell-divisor.result _ c.in-ok-need.ensures c.cell-first.ensures c.cell-second.ensures c.cell-divisor.ensures (sym c.divide-product.ensures.defined ∙ h.0) h.1)
+pub returns-in_err-pair : goal.returns-in_err-pair
+returns-in_err-pair c =
+    let p = err_from_is_err_and c.from_residual-in_err-pair.result c.from_residual-in_err-pair.ensures.1 in
+    let h = c.in_err-pair.ensures in
+    rw (p.1, p.2) (scaled_not c.args.registers.now c.args.cells.now c.requires c.cell-first.result c.cell-second.result c.cell-divisor.result _ c.in_ok-need.ensures c.cell-first.ensures c.cell-second.ensures c.cell-divisor.ensures (sym c.divide_product.ensures.defined ∙ h.0) h.1)
 
 pub returns : goal.returns
 returns c =
     scaled_done c.args.registers.now c.replace.new.registers c.replace.new.registers c.args.cells.now c.replace.new.cells c.replace.new.cells c.requires
     c.cell-first.result c.cell-second.result c.cell-divisor.result _
-    c.in-ok-need.ensures c.cell-first.ensures c.cell-second.ensures c.cell-divisor.ensures (sym c.divide-product.ensures.defined ∙ c.in-ok-pair.ensures)
+    c.in_ok-need.ensures c.cell-first.ensures c.cell-second.ensures c.cell-divisor.ensures (sym c.divide_product.ensures.defined ∙ c.in_ok-pair.ensures)
     (record { shared = c.replace.ensures.shared; seat = c.replace.ensures.seat; stack = c.replace.ensures.stack })

@@ -4,4 +4,4 @@ use Rattle.data_words.proofs.leaving.leaving_word.Goals as goal
 pub returns : goal.returns
 returns c =
     leaving-done c.args.registers.now c.leave.new.registers c.args.cells.now c.leave.new.cells c.requires
-    c.args.word c.left-by-x.result c.leave.result c.left-by-x.ensures c.leave.ensures
+    c.args.word c.left_by-x.result c.leave.result c.left_by-x.ensures c.leave.ensures

@@ -5,11 +5,11 @@ use Rattle.data_words.proofs.Ends.{cells-short}
 use Rattle.data_words.proofs.Finishing.{drop-done}
 use Rattle.data_words.proofs.moving.drop_cell.Goals as goal
 
-pub returns-in-err-need : goal.returns-in-err-need
-returns-in-err-need c =
-    let p = err_from_is_err_and c.from-residual.result c.from-residual.ensures.1 in
-    let h = c.in-err-need.ensures in
+pub returns-in_err-need : goal.returns-in_err-need
+returns-in_err-need c =
+    let p = err_from_is_err_and c.from_residual.result c.from_residual.ensures.1 in
+    let h = c.in_err-need.ensures in
     rw (p.1, p.2) (cells-short 2 drop_word drop-acts c.args.registers.now c.args.cells.now _ c.requires (omega arith) h.0 h.1)
 
 pub returns : goal.returns
-returns c = drop-done c.args.registers.now c.release.new.registers c.args.cells.now c.args.cells.now c.requires c.in-ok-need.ensures (record { shared = c.release.ensures.shared; seat = c.release.ensures.seat; stack = c.release.ensures.stack })
+returns c = drop-done c.args.registers.now c.release.new.registers c.args.cells.now c.args.cells.now c.requires c.in_ok-need.ensures (record { shared = c.release.ensures.shared; seat = c.release.ensures.seat; stack = c.release.ensures.stack })

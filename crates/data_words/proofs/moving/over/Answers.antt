@@ -5,13 +5,13 @@ use Rattle.data_words.proofs.Ends.{cells-short}
 use Rattle.data_words.proofs.Finishing.{over_done}
 use Rattle.data_words.proofs.moving.over.Goals as goal
 
-pub returns-in-err-need : goal.returns-in-err-need
-returns-in-err-need c =
-    let p = err_from_is_err_and c.from-residual.result c.from-residual.ensures.1 in
-    let h = c.in-err-need.ensures in
+pub returns-in_err-need : goal.returns-in_err-need
+returns-in_err-need c =
+    let p = err_from_is_err_and c.from_residual.result c.from_residual.ensures.1 in
+    let h = c.in_err-need.ensures in
     rw (p.1, p.2) (cells-short 4 over_word over_acts c.args.registers.now c.args.cells.now _ c.requires (omega arith) h.0 h.1)
 
 pub returns : goal.returns
 returns c =
     over_done c.args.registers.now c.leave.new.registers c.args.cells.now c.leave.new.cells c.requires
-    c.cell-x.result c.leave.result c.in-ok-need.ensures c.cell-x.ensures c.leave.ensures
+    c.cell-x.result c.leave.result c.in_ok-need.ensures c.cell-x.ensures c.leave.ensures

@@ -6,20 +6,20 @@ use Rattle.data_words.proofs.Ends.{cells-short}
 use Rattle.data_words.proofs.Finishing.{roll_too_deep, rolled_up}
 use Rattle.data_words.proofs.moving.roll.Goals as goal
 
-pub returns-in-err-need : goal.returns-in-err-need
-returns-in-err-need c =
-    let p = err_from_is_err_and c.from-residual.result c.from-residual.ensures.1 in
-    let h = c.in-err-need.ensures in
+pub returns-in_err-need : goal.returns-in_err-need
+returns-in_err-need c =
+    let p = err_from_is_err_and c.from_residual.result c.from_residual.ensures.1 in
+    let h = c.in_err-need.ensures in
     rw (p.1, p.2) (cells-short 9 Kernel.roll roll-acts c.args.registers.now c.args.cells.now _ c.requires (omega arith) h.0 h.1)
 
-pub returns-in-err-need-2 : goal.returns-in-err-need-2
-returns-in-err-need-2 c =
-    let p = err_from_is_err_and c.from-residual-in-err-need-2.result c.from-residual-in-err-need-2.ensures.1 in
-    let h = c.in-err-need-2.ensures in
-    rw (p.1, p.2) (roll_too_deep c.args.registers.now c.args.registers.now c.args.cells.now c.args.cells.now c.requires c.from-k.result _ c.in-ok-need.ensures (c.from-k.ensures ∙ c.cell.ensures) (omega (arith, h.0)) h.1)
+pub returns-in_err-need-2 : goal.returns-in_err-need-2
+returns-in_err-need-2 c =
+    let p = err_from_is_err_and c.from_residual-in_err-need-2.result c.from_residual-in_err-need-2.ensures.1 in
+    let h = c.in_err-need-2.ensures in
+    rw (p.1, p.2) (roll_too_deep c.args.registers.now c.args.registers.now c.args.cells.now c.args.cells.now c.requires c.from-k.result _ c.in_ok-need.ensures (c.from-k.ensures ∙ c.cell.ensures) (omega (arith, h.0)) h.1)
 
 pub returns : goal.returns
 returns c =
     rolled_up c.args.registers.now c.release.new.registers c.args.cells.now c.roll.new.cells c.requires
-    c.from-k.result c.from.result c.from.ensures c.in-ok-need.ensures (c.from-k.ensures ∙ c.cell.ensures) (omega (arith, c.in-ok-need-2.ensures))
+    c.from-k.result c.from.result c.from.ensures c.in_ok-need.ensures (c.from-k.ensures ∙ c.cell.ensures) (omega (arith, c.in_ok-need-2.ensures))
     c.release.ensures.shared c.release.ensures.seat c.release.ensures.stack (c.roll.ensures 0)

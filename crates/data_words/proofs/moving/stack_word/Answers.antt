@@ -4,7 +4,7 @@ pub returns-in-Dup : goal.returns-in-Dup
 returns-in-Dup c = rw c.in-Dup.is c.dup.ensures
 
 pub returns-in-Drop : goal.returns-in-Drop
-returns-in-Drop c = rw c.in-Drop.is c.drop-cell.ensures
+returns-in-Drop c = rw c.in-Drop.is c.drop_cell.ensures
 
 pub returns-in-Swap : goal.returns-in-Swap
 returns-in-Swap c = rw c.in-Swap.is c.swap.ensures
@@ -16,7 +16,7 @@ pub returns-in-Rot : goal.returns-in-Rot
 returns-in-Rot c = rw c.in-Rot.is c.rot.ensures
 
 pub returns-in-QuestionDup : goal.returns-in-QuestionDup
-returns-in-QuestionDup c = rw c.in-QuestionDup.is c.question-dup.ensures
+returns-in-QuestionDup c = rw c.in-QuestionDup.is c.question_dup.ensures
 
 pub returns-in-Pick : goal.returns-in-Pick
 returns-in-Pick c = rw c.in-Pick.is c.pick.ensures

@@ -5,11 +5,11 @@ use Rattle.data_words.proofs.Ends.{cells-short}
 use Rattle.data_words.proofs.Finishing.{swap_done}
 use Rattle.data_words.proofs.moving.swap.Goals as goal
 
-pub returns-in-err-need : goal.returns-in-err-need
-returns-in-err-need c =
-    let p = err_from_is_err_and c.from-residual.result c.from-residual.ensures.1 in
-    let h = c.in-err-need.ensures in
+pub returns-in_err-need : goal.returns-in_err-need
+returns-in_err-need c =
+    let p = err_from_is_err_and c.from_residual.result c.from_residual.ensures.1 in
+    let h = c.in_err-need.ensures in
     rw (p.1, p.2) (cells-short 3 swap_word swap_acts c.args.registers.now c.args.cells.now _ c.requires (omega arith) h.0 h.1)
 
 pub returns : goal.returns
-returns c = swap_done c.args.registers.now c.args.cells.now c.requires c.roll.new.cells c.from.result c.from.ensures c.in-ok-need.ensures (c.roll.ensures 0)
+returns c = swap_done c.args.registers.now c.args.cells.now c.requires c.roll.new.cells c.from.result c.from.ensures c.in_ok-need.ensures (c.roll.ensures 0)

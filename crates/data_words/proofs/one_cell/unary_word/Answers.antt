@@ -8,14 +8,14 @@ use Rattle.data_words.proofs.Ends.{cells-short}
 use Rattle.data_words.proofs.Finishing.{unary_done}
 use Rattle.data_words.proofs.one_cell.unary_word.Goals as goal
 
-pub returns-in-err-need : goal.returns-in-err-need
-returns-in-err-need c =
-    let p = err_from_is_err_and c.from-residual.result c.from-residual.ensures.1 in
-    let h = c.in-err-need.ensures in
+pub returns-in_err-need : goal.returns-in_err-need
+returns-in_err-need c =
+    let p = err_from_is_err_and c.from_residual.result c.from_residual.ensures.1 in
+    let h = c.in_err-need.ensures in
     rw (p.1, p.2) (cells-short (unary_number c.args.word) (Kernel.one (λ x. of_one c.args.word x ∷ [])) (unary_acts c.args.word) c.args.registers.now c.args.cells.now _ c.requires (omega arith) h.0 h.1)
 
 pub returns : goal.returns
 returns c =
     unary_done c.args.registers.now c.replace.new.registers c.args.cells.now c.replace.new.cells c.requires
-    c.args.word c.cell-a.result c.of-one.result c.in-ok-need.ensures c.cell-a.ensures c.of-one.ensures
+    c.args.word c.cell-a.result c.of_one.result c.in_ok-need.ensures c.cell-a.ensures c.of_one.ensures
     (record { shared = c.replace.ensures.shared; seat = c.replace.ensures.seat; stack = c.replace.ensures.stack })

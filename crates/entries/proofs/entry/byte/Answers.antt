@@ -4,5 +4,5 @@ use Rattle.entries.proofs.entry.byte.Goals as goal
 
 pub returns : goal.returns
 returns c =
-    ap (λ i. get_or c.args.image.now i 0) c.index-of.ensures
+    ap (λ i. get_or c.args.image.now i 0) c.index_of.ensures
     ∙ sym (get_or-low c.args.dp c.args.image.now c.args.a (omega arith) (omega arith))

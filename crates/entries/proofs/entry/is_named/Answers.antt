@@ -5,12 +5,12 @@ use Rattle.entries.specs.Entries.{first_at, spelled, bytes_are}
 use Rattle.entries.proofs.Names.{length-spelled, bytes_more, bytes-not, bytes_all, named_other, named-bytes}
 use Rattle.entries.proofs.entry.is_named.Goals as goal
 
-pub name-length-requires : goal.name-length-requires
+pub name_length-requires : goal.name_length-requires
 unfolding first_at
-name-length-requires c = (c.requires.0, (omega arith, omega arith))
+name_length-requires c = (c.requires.0, (omega arith, omega arith))
 
-pub returns-then-name-length-name : goal.returns-then-name-length-name
-returns-then-name-length-name c =
+pub returns-then-name_length-name : goal.returns-then-name_length-name
+returns-then-name_length-name c =
     let l = length-spelled c.args.name.now in
     sym (named_other (low_of c.args.dp c.args.image.now) c.args.entry (spelled c.args.name.now) (λ e. omega arith))
 

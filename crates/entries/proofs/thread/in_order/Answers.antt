@@ -7,6 +7,6 @@ pub returns-then-e-lt258 : goal.returns-then-e-lt258
 unfolding first_at
 returns-then-e-lt258 c = grind (arith, nat_tests)
 
-pub overflow-add-result : goal.overflow-add-result
+pub overflow_add-result : goal.overflow_add-result
 unfolding first_at
-overflow-add-result c = omega arith
+overflow_add-result c = omega arith

@@ -7,17 +7,17 @@ use Rattle.entries.specs.Threads.{answered}
 use Rattle.entries.proofs.Walks.{At, in_parts, first_above, at-start, at-linked, at-end, at_broken, at-hit, link_some, link_none, link_broken, finds_youngest}
 use Rattle.entries.proofs.thread.search_thread.Goals as goal
 
-pub returns-in-err-e : goal.returns-in-err-e
-returns-in-err-e c =
-    let b = link_broken c.args.told (low_of c.args.dp c.args.image.now) c.args.dp c.links.before c.links.link c.in-err-e.field-0.0 c.in-err-e.ensures in
+pub returns-in_err-e : goal.returns-in_err-e
+returns-in_err-e c =
+    let b = link_broken c.args.told (low_of c.args.dp c.args.image.now) c.args.dp c.links.before c.links.link c.in_err-e.field-0.0 c.in_err-e.ensures in
     let f = at_broken _ _ _ _ _ _ c.links.invariant.1 b.1 b.2 in
-    let p = err_from_is_err_and c.from-residual.result c.from-residual.ensures.1 in
+    let p = err_from_is_err_and c.from_residual.result c.from_residual.ensures.1 in
     let e = p.1 ∙ ap Err p.2 ∙ b.0 ∙ sym (ap (answered c.args.told) f) in
     record { found = e; youngest = finds_youngest _ _ c.args.dp _ c.args.head _ (length-low c.args.dp c.args.image.now (omega arith) (omega arith)) (omega arith) e }
 
-pub returns-then-is-named : goal.returns-then-is-named
-returns-then-is-named c =
-    let w = c.in-ok-e.was in
+pub returns-then-is_named : goal.returns-then-is_named
+returns-then-is_named c =
+    let w = c.in_ok-e.was in
     let s = link_some c.args.told (low_of c.args.dp c.args.image.now) c.args.dp c.links.before c.links.link c.in-Some.e (cc) in
     let f = at-hit _ _ _ _ _ _ c.links.invariant.1 s.1 s.2 (cc) in
     let e = ap (answered c.args.told) (f ∙ ap hit s.0) in
@@ -25,7 +25,7 @@ returns-then-is-named c =
 
 pub cell-link-requires : goal.cell-link-requires
 cell-link-requires c =
-    let w = c.in-ok-e.was in
+    let w = c.in_ok-e.was in
     let s = link_some c.args.told (low_of c.args.dp c.args.image.now) c.args.dp c.links.before c.links.link c.in-Some.e (cc) in
     let p = in_parts (low_of c.args.dp c.args.image.now) c.args.dp c.links.before c.links.link s.2 in
     let l = first_above (low_of c.args.dp c.args.image.now) c.links.link in
@@ -33,14 +33,14 @@ cell-link-requires c =
 
 pub links-preserved : goal.links-preserved
 links-preserved c =
-    let w = c.in-ok-e.was in
+    let w = c.in_ok-e.was in
     let s = link_some c.args.told (low_of c.args.dp c.args.image.now) c.args.dp c.links.before c.links.link c.in-Some.e (cc) in
     let p = in_parts (low_of c.args.dp c.args.image.now) c.args.dp c.links.before c.links.link s.2 in
     (omega arith, at-linked _ _ _ _ c.links.link _ c.in-Some.e c.cell-link.result s.0 c.cell-link.ensures c.links.invariant.1 s.1 s.2 (cc))
 
 pub returns : goal.returns
 returns c =
-    let w = c.in-ok-e.was in
+    let w = c.in_ok-e.was in
     let f = at-end _ _ _ _ _ _ c.links.invariant.1 (link_none c.args.told (low_of c.args.dp c.args.image.now) c.args.dp c.links.before c.links.link (cc)) in
     let e = ap (answered c.args.told) f in
     record { found = sym e; youngest = finds_youngest _ _ c.args.dp _ c.args.head _ (length-low c.args.dp c.args.image.now (omega arith) (omega arith)) (omega arith) (sym e) }

@@ -8,5 +8,5 @@ pub returns : goal.returns
 returns c =
     let low = low_of c.args.dp c.args.image.now in
     let l = length-low c.args.dp c.args.image.now (omega arith) (omega arith) in
-    let e = search_found c.args.told low c.args.dp c.args.vocabulary c.args.name.now _ _ c.search-thread.result l c.thread-of.ensures c.cell-head.ensures c.search-thread.ensures.found in
+    let e = search_found c.args.told low c.args.dp c.args.vocabulary c.args.name.now _ _ c.search_thread.result l c.thread_of.ensures c.cell-head.ensures c.search_thread.ensures.found in
     record { found = e; youngest = search_youngest c.args.told low c.args.vocabulary c.args.name.now _ (omega arith) e }

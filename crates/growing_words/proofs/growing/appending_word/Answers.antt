@@ -4,4 +4,4 @@ pub returns-in-Comma : goal.returns-in-Comma
 returns-in-Comma c = record { did = rw c.in-Comma.is c.comma.ensures.did; below = c.comma.ensures.below }
 
 pub returns-in-CComma : goal.returns-in-CComma
-returns-in-CComma c = record { did = rw c.in-CComma.is c.comma-byte.ensures.did; below = c.comma-byte.ensures.below }
+returns-in-CComma c = record { did = rw c.in-CComma.is c.comma_byte.ensures.did; below = c.comma_byte.ensures.below }

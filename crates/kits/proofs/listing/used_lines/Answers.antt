@@ -2,7 +2,7 @@ use Rattle.std.proofs.Common.{◌≡◌, ◌+◌, true, false, cond, sym, refl, 
 use Rattle.kits.specs.Listing.{used_lines}
 use Rattle.kits.proofs.LineLaws.{used_more}
 use Rattle.kits.proofs.listing.used_lines.Goals as goal
-use Rattle.kits.proofs.listing.used_lines.Goals.{then-is-used, else-is-used}
+use Rattle.kits.proofs.listing.used_lines.Goals.{then-is_used, else-is_used}
 
 pub loop-k-init : goal.loop-k-init
 unfolding used_lines
@@ -10,12 +10,12 @@ loop-k-init c = (refl, omega arith)
 
 pub loop-k-preserved : goal.loop-k-preserved
 loop-k-preserved c =
-    let more = used_more c.loop-k.k c.loop-k.used c.args.block.now c.is-used.result c.loop-k.invariant.0 c.is-used.ensures in
-    elim c.if-is-used.branch [
-      | then-is-used w ↦ (w.used-is ∙ sym (ap (λ b. c.loop-k.used + cond b 1 0) w.if-is-used.true) ∙ more, omega (arith, w.used-is))
-      | else-is-used w ↦
+    let more = used_more c.loop-k.k c.loop-k.used c.args.block.now c.is_used.result c.loop-k.invariant.0 c.is_used.ensures in
+    elim c.if-is_used.branch [
+      | then-is_used w ↦ (w.used-is ∙ sym (ap (λ b. c.loop-k.used + cond b 1 0) w.if-is_used.true) ∙ more, omega (arith, w.used-is))
+      | else-is_used w ↦
           let z : c.loop-k.used ≡ c.loop-k.used + 0 = omega arith in
-          (w.used-is ∙ z ∙ sym (ap (λ b. c.loop-k.used + cond b 1 0) w.if-is-used.false) ∙ more, omega (arith, w.used-is))
+          (w.used-is ∙ z ∙ sym (ap (λ b. c.loop-k.used + cond b 1 0) w.if-is_used.false) ∙ more, omega (arith, w.used-is))
     ]
 
 pub returns : goal.returns

@@ -2,4 +2,4 @@ use Rattle.std.proofs.Common.{refl}
 use Rattle.loads.proofs.loading.open_block.Goals as goal
 
 pub returns : goal.returns
-returns c = record { shared = refl; seat = refl; loads = c.open-one.ensures.stack }
+returns c = record { shared = refl; seat = refl; loads = c.open_one.ensures.stack }

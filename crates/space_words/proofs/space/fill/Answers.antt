@@ -7,22 +7,22 @@ use Rattle.space_words.proofs.Doing.{fill_acts}
 use Rattle.space_words.proofs.Ends.{space-short, fill_too_far, fill_done}
 use Rattle.space_words.proofs.space.fill.Goals as goal
 
-pub returns-in-err-need : goal.returns-in-err-need
-returns-in-err-need c =
-    let p = err_from_is_err_and c.from-residual.result c.from-residual.ensures.1 in
-    let h = c.in-err-need.ensures in
+pub returns-in_err-need : goal.returns-in_err-need
+returns-in_err-need c =
+    let p = err_from_is_err_and c.from_residual.result c.from_residual.ensures.1 in
+    let h = c.in_err-need.ensures in
     record { did = rw (p.1, p.2) (space-short 40 Kernel.fill fill_acts c.args.registers.now c.args.image.now c.args.cells.now _ c.requires.1 (omega arith) h.0 h.1); below = refl }
 
-pub returns-in-err-reach : goal.returns-in-err-reach
-returns-in-err-reach c =
-    let p = err_from_is_err_and c.from-residual-in-err-reach.result c.from-residual-in-err-reach.ensures.1 in
-    let h = c.in-err-reach.ensures in
-    record { did = rw (p.1, p.2) (fill_too_far c.args.registers.now c.args.image.now c.args.cells.now c.requires.0 c.requires.1 c.cell-address.result c.cell-n.result _ c.in-ok-need.ensures c.cell-address.ensures c.cell-n.ensures h.0 h.1); below = refl }
+pub returns-in_err-reach : goal.returns-in_err-reach
+returns-in_err-reach c =
+    let p = err_from_is_err_and c.from_residual-in_err-reach.result c.from_residual-in_err-reach.ensures.1 in
+    let h = c.in_err-reach.ensures in
+    record { did = rw (p.1, p.2) (fill_too_far c.args.registers.now c.args.image.now c.args.cells.now c.requires.0 c.requires.1 c.cell-address.result c.cell-n.result _ c.in_ok-need.ensures c.cell-address.ensures c.cell-n.ensures h.0 h.1); below = refl }
 
 pub returns : goal.returns
 returns c =
     let d =
-    fill_done c.args.registers.now c.args.image.now c.args.cells.now c.requires.0 c.requires.1 c.release.new.registers c.fill.new.image c.cell-address.result c.cell-n.result c.low-byte-x.result c.in-ok-need.ensures c.cell-address.ensures c.cell-n.ensures (c.low-byte-x.ensures ∙ ap (λ y. y % 256) c.cell.ensures) c.in-ok-reach.ensures.0
-    (c.fill.ensures.written ∙ ap (λ y. overwritten y (replicate c.from-2.result c.low-byte-x.result) c.args.image.now) c.from.ensures ∙ ap (λ y. overwritten c.cell-address.result (replicate y c.low-byte-x.result) c.args.image.now) c.from-2.ensures)
+    fill_done c.args.registers.now c.args.image.now c.args.cells.now c.requires.0 c.requires.1 c.release.new.registers c.fill.new.image c.cell-address.result c.cell-n.result c.low_byte-x.result c.in_ok-need.ensures c.cell-address.ensures c.cell-n.ensures (c.low_byte-x.ensures ∙ ap (λ y. y % 256) c.cell.ensures) c.in_ok-reach.ensures.0
+    (c.fill.ensures.written ∙ ap (λ y. overwritten y (replicate c.from-2.result c.low_byte-x.result) c.args.image.now) c.from.ensures ∙ ap (λ y. overwritten c.cell-address.result (replicate y c.low_byte-x.result) c.args.image.now) c.from-2.ensures)
     (record { shared = c.release.ensures.shared; seat = c.release.ensures.seat; stack = c.release.ensures.stack }) in
     record { did = d.0; below = d.1 }

@@ -5,14 +5,14 @@ use Rattle.text_card.proofs.card.laid_out.Goals as goal
 
 pub loop-rest-smaller : goal.loop-rest-smaller
 loop-rest-smaller c =
-    let e = ap length c.behind-first-rest.ensures in
+    let e = ap length c.behind_first-rest.ensures in
     omega (arith, e, behind_shorter c.loop-rest.rest.now c.loop-rest-test.true)
 
 pub loop-rest-preserved : goal.loop-rest-preserved
 loop-rest-preserved c =
-    laid_more c.args.text.now c.loop-rest.rest.now c.first-line.result.now c.behind-first-rest.result.now
-    (vec_items c.loop-rest.bytes) (vec_items c.add-line.new.bytes) c.loop-rest.invariant c.loop-rest-test.true
-    c.first-line.ensures c.behind-first-rest.ensures c.in-ok-add-line.ensures
+    laid_more c.args.text.now c.loop-rest.rest.now c.first_line.result.now c.behind_first-rest.result.now
+    (vec_items c.loop-rest.bytes) (vec_items c.add_line.new.bytes) c.loop-rest.invariant c.loop-rest-test.true
+    c.first_line.ensures c.behind_first-rest.ensures c.in_ok-add_line.ensures
 
 pub returns : goal.returns
 returns c =

@@ -6,10 +6,10 @@ use Rattle.text_card.proofs.lines.behind_first.Goals as goal
 
 pub returns-then-n-text : goal.returns-then-n-text
 returns-then-n-text c =
-    let e : c.line-length-n.result + 1 ≡ suc (length (first_line c.args.text.now)) = omega arith in
-    take_rest c.args.text.now (c.line-length-n.result + 1) ∙ ap (λ n. drop n c.args.text.now) e ∙ drop-line c.args.text.now
+    let e : c.line_length-n.result + 1 ≡ suc (length (first_line c.args.text.now)) = omega arith in
+    take_rest c.args.text.now (c.line_length-n.result + 1) ∙ ap (λ n. drop n c.args.text.now) e ∙ drop-line c.args.text.now
 
 pub returns-else-n-text : goal.returns-else-n-text
 returns-else-n-text c =
-    let h : length c.args.text.now ≤ c.line-length-n.result = omega arith in
-    take_rest c.args.text.now c.line-length-n.result ∙ drop-at-end c.args.text.now c.line-length-n.result c.line-length-n.ensures.0 h
+    let h : length c.args.text.now ≤ c.line_length-n.result = omega arith in
+    take_rest c.args.text.now c.line_length-n.result ∙ drop-at-end c.args.text.now c.line_length-n.result c.line_length-n.ensures.0 h

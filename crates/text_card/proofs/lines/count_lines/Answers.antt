@@ -6,15 +6,15 @@ use Rattle.text_card.proofs.lines.count_lines.Goals as goal
 pub loop-rest-smaller : goal.loop-rest-smaller
 loop-rest-smaller c =
     let h : 0 < length c.loop-rest.rest.now = omega arith in
-    let e = ap length c.behind-first-rest.ensures in
+    let e = ap length c.behind_first-rest.ensures in
     omega (arith, e, behind_shorter c.loop-rest.rest.now h)
 
 pub loop-rest-preserved : goal.loop-rest-preserved
 loop-rest-preserved c =
     let h : 0 < length c.loop-rest.rest.now = omega arith in
-    let e = ap length c.behind-first-rest.ensures in
+    let e = ap length c.behind_first-rest.ensures in
     let s = ap length (lines_step c.loop-rest.rest.now h) in
-    let m = ap (λ t. length (lines_of t)) c.behind-first-rest.ensures in
+    let m = ap (λ t. length (lines_of t)) c.behind_first-rest.ensures in
     (omega (arith, e, behind_shorter c.loop-rest.rest.now h), omega (arith, s, m))
 
 pub returns : goal.returns

@@ -5,5 +5,5 @@ use Rattle.text_card.proofs.lines.first_line.Goals as goal
 
 pub returns : goal.returns
 returns c =
-    let e : c.line-length-n.result - 0 ≡ length (first_line c.args.text.now) = omega arith in
+    let e : c.line_length-n.result - 0 ≡ length (first_line c.args.text.now) = omega arith in
     ap (λ n. take n c.args.text.now) e ∙ take-line c.args.text.now

@@ -2,11 +2,11 @@ use Rattle.std.proofs.Common.{◌≡◌, ◌<◌, ◌≤◌, length, sym, ap, �
 use Rattle.texts.proofs.Naming.{long_is_none, empty_is_none, name_in_range, graphic_more, graphic_stops, graphic-ends}
 use Rattle.texts.proofs.names.is_name.Goals as goal
 
-pub returns-then-not-is-graphic : goal.returns-then-not-is-graphic
-returns-then-not-is-graphic c = sym (c.loop-byte.invariant ∙ graphic_stops c.args.word.now c.loop-byte.byte-index (omega arith) (sym c.is-graphic.ensures ∙ c.if-not-is-graphic.true))
+pub returns-then-not-is_graphic : goal.returns-then-not-is_graphic
+returns-then-not-is_graphic c = sym (c.loop-byte.invariant ∙ graphic_stops c.args.word.now c.loop-byte.byte-index (omega arith) (sym c.is_graphic.ensures ∙ c.if-not-is_graphic.true))
 
 pub loop-byte-preserved : goal.loop-byte-preserved
-loop-byte-preserved c = c.loop-byte.invariant ∙ graphic_more c.args.word.now c.loop-byte.byte-index (omega arith) (sym c.is-graphic.ensures ∙ c.if-not-is-graphic.false)
+loop-byte-preserved c = c.loop-byte.invariant ∙ graphic_more c.args.word.now c.loop-byte.byte-index (omega arith) (sym c.is_graphic.ensures ∙ c.if-not-is_graphic.false)
 
 pub returns : goal.returns
 returns c = sym (c.loop-byte.invariant ∙ graphic-ends c.args.word.now c.loop-byte.byte-index (omega arith))

@@ -3,8 +3,8 @@ use Rattle.texts.specs.Texts.{text_in, text_length}
 use Rattle.texts.proofs.Windows.{text-long}
 use Rattle.texts.proofs.words.last_word.Goals as goal
 
-pub slice-bounds-result-end : goal.slice-bounds-result-end
-slice-bounds-result-end c =
+pub slice_bounds-result-end : goal.slice_bounds-result-end
+slice_bounds-result-end c =
     let l = text-long c.args.registers.now c.args.image.now c.requires.0 in
-    let e = ap length c.text-of-text.ensures in
+    let e = ap length c.text_of-text.ensures in
     omega arith

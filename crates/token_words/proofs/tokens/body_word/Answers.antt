@@ -4,17 +4,17 @@ use Rattle.image.specs.Cells.{cell_at}
 use Rattle.token_words.proofs.Pushing.{body-short, body_bad, body-done}
 use Rattle.token_words.proofs.tokens.body_word.Goals as goal
 
-pub returns-in-err-need : goal.returns-in-err-need
-returns-in-err-need c =
-    let p = err_from_is_err_and c.from-residual.result c.from-residual.ensures.1 in
-    let h = c.in-err-need.ensures in
+pub returns-in_err-need : goal.returns-in_err-need
+returns-in_err-need c =
+    let p = err_from_is_err_and c.from_residual.result c.from_residual.ensures.1 in
+    let h = c.in_err-need.ensures in
     rw (p.1, p.2) (body-short c.args.registers.now c.args.image.now c.args.cells.now c.requires.0 c.requires.1 _ h.0 h.1)
 
-pub returns-then-is-created : goal.returns-then-is-created
-returns-then-is-created c =
+pub returns-then-is_created : goal.returns-then-is_created
+returns-then-is_created c =
     body-done c.args.registers.now c.args.image.now c.args.cells.now c.requires.0 c.requires.1 c.replace.new.registers c.replace.new.cells c.cell-token.result c.fetch-x.result
-    c.in-ok-need.ensures c.cell-token.ensures (sym c.if-is-created.ensures.value) (c.fetch-x.ensures.value ∙ ap (λ y. cell_at c.args.image.now (y + 2)) c.from.ensures)
+    c.in_ok-need.ensures c.cell-token.ensures (sym c.if-is_created.ensures.value) (c.fetch-x.ensures.value ∙ ap (λ y. cell_at c.args.image.now (y + 2)) c.from.ensures)
     c.replace.ensures.shared c.replace.ensures.seat c.replace.ensures.stack
 
 pub returns : goal.returns
-returns c = body_bad c.args.registers.now c.args.image.now c.args.cells.now c.requires.0 c.requires.1 c.cell-token.result _ c.in-ok-need.ensures c.cell-token.ensures (sym c.if-is-created.ensures.value) c.refusal.ensures
+returns c = body_bad c.args.registers.now c.args.image.now c.args.cells.now c.requires.0 c.requires.1 c.cell-token.result _ c.in_ok-need.ensures c.cell-token.ensures (sym c.if-is_created.ensures.value) c.refusal.ensures

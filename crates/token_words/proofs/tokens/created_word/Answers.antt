@@ -4,13 +4,13 @@ use Rattle.image.specs.Cells.{cell_at}
 use Rattle.token_words.proofs.Pushing.{created_bad, created_done}
 use Rattle.token_words.proofs.tokens.created_word.Goals as goal
 
-pub returns-in-err-ask-inside : goal.returns-in-err-ask-inside
-returns-in-err-ask-inside c =
-    let p = err_from_is_err_and c.from-residual.result c.from-residual.ensures.1 in
-    let h = c.in-err-ask-inside.ensures in
+pub returns-in_err-ask_inside : goal.returns-in_err-ask_inside
+returns-in_err-ask_inside c =
+    let p = err_from_is_err_and c.from_residual.result c.from_residual.ensures.1 in
+    let h = c.in_err-ask_inside.ensures in
     rw (p.1, p.2) (created_bad c.args.registers.now c.args.image.now c.args.cells.now c.requires.0 c.requires.1 c.args.token _ h.0 h.1)
 
 pub returns : goal.returns
 returns c =
     created_done c.args.registers.now c.args.image.now c.args.cells.now c.requires.0 c.requires.1 c.leave.new.registers c.leave.new.cells c.args.token c.fetch-x.result c.leave.result
-    c.in-ok-ask-inside.ensures.0 (c.fetch-x.ensures.value ∙ ap (λ y. cell_at c.args.image.now (y + 2)) c.from.ensures) c.leave.ensures
+    c.in_ok-ask_inside.ensures.0 (c.fetch-x.ensures.value ∙ ap (λ y. cell_at c.args.image.now (y + 2)) c.from.ensures) c.leave.ensures

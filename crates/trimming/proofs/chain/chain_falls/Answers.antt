@@ -5,28 +5,28 @@ use Rattle.trimming.proofs.chain.chain_falls.Goals as goal
 pub chain-init : goal.chain-init
 chain-init c = (omega arith, asking-start _ _ _ _)
 
-pub returns-then-not-in-chain : goal.returns-then-not-in-chain
-returns-then-not-in-chain c = sym (asking_broken _ _ _ _ _ c.chain.invariant.1 c.chain-test.true (sym c.if-not-in-chain.ensures))
+pub returns-then-not-in_chain : goal.returns-then-not-in_chain
+returns-then-not-in_chain c = sym (asking_broken _ _ _ _ _ c.chain.invariant.1 c.chain-test.true (sym c.if-not-in_chain.ensures))
 
 pub cell-k-requires : goal.cell-k-requires
 cell-k-requires c =
-    let p = in-chain-parts _ _ _ c.chain.k (sym c.if-not-in-chain.ensures) in
+    let p = in-chain-parts _ _ _ c.chain.k (sym c.if-not-in_chain.ensures) in
     (c.requires, (omega (arith, p.0), omega (arith, p.1)))
 
 pub chain-smaller : goal.chain-smaller
 chain-smaller c =
-    let p = in-chain-parts _ _ _ c.chain.k (sym c.if-not-in-chain.ensures) in
+    let p = in-chain-parts _ _ _ c.chain.k (sym c.if-not-in_chain.ensures) in
     omega (arith, p.1)
 
 pub chain-preserved : goal.chain-preserved
 chain-preserved c =
-    let p = in-chain-parts _ _ _ c.chain.k (sym c.if-not-in-chain.ensures) in
-    (omega (arith, p.1), rw c.cell-k.ensures (asking_more _ _ _ _ _ c.chain.invariant.1 c.chain-test.true (sym c.if-not-in-chain.ensures)))
+    let p = in-chain-parts _ _ _ c.chain.k (sym c.if-not-in_chain.ensures) in
+    (omega (arith, p.1), rw c.cell-k.ensures (asking_more _ _ _ _ _ c.chain.invariant.1 c.chain-test.true (sym c.if-not-in_chain.ensures)))
 
 pub returns : goal.returns
 returns c = sym (asking-end _ _ _ _ _ c.chain.invariant.1 c.chain-test.false)
 
-pub overflow-sub-before : goal.overflow-sub-before
-overflow-sub-before c =
-    let p = in-chain-parts _ _ _ c.chain.k (sym c.if-not-in-chain.ensures) in
+pub overflow_sub-before : goal.overflow_sub-before
+overflow_sub-before c =
+    let p = in-chain-parts _ _ _ c.chain.k (sym c.if-not-in_chain.ensures) in
     omega (arith, p.0)

@@ -6,33 +6,33 @@ use Rattle.trimming.proofs.chain.lower_vocabularies.Goals as goal
 pub chain-init : goal.chain-init
 chain-init c = (moving_start _ _ _ _ _ c.requires.1.1.1, outside_none _)
 
-pub overflow-sub-k : goal.overflow-sub-k
-overflow-sub-k c = let p = moving_facts _ _ _ _ _ _ c.chain.invariant.0 c.chain-test.true in omega (arith, p.0)
+pub overflow_sub-k : goal.overflow_sub-k
+overflow_sub-k c = let p = moving_facts _ _ _ _ _ _ c.chain.invariant.0 c.chain-test.true in omega (arith, p.0)
 
-pub lower-threads-requires : goal.lower-threads-requires
-lower-threads-requires c = let p = moving_facts _ _ _ _ _ _ c.chain.invariant.0 c.chain-test.true in
+pub lower_threads-requires : goal.lower_threads-requires
+lower_threads-requires c = let p = moving_facts _ _ _ _ _ _ c.chain.invariant.0 c.chain-test.true in
     (c.chain.auto.image ∙ c.requires.0, (omega (arith, p.0), (omega (arith, p.0, p.1), (omega (arith, p.0, p.1), p.2))))
 
 pub returns : goal.returns
 returns c = let t = moving_end _ _ _ _ _ _ c.chain.invariant.0 c.chain-test.false in
     record { bytes = t.0; newest = t.1; rest = c.chain.invariant.1 }
 
-pub overflow-sub-k-in-chain : goal.overflow-sub-k-in-chain
-overflow-sub-k-in-chain c = let p = moving_facts _ _ _ _ _ _ c.chain.invariant.0 c.chain-test.true in omega (arith, p.0)
+pub overflow_sub-k-in-chain : goal.overflow_sub-k-in-chain
+overflow_sub-k-in-chain c = let p = moving_facts _ _ _ _ _ _ c.chain.invariant.0 c.chain-test.true in omega (arith, p.0)
 
-pub youngest-in-requires : goal.youngest-in-requires
-youngest-in-requires c = let p = moving_facts _ _ _ _ _ _ c.chain.invariant.0 c.chain-test.true in
-    (c.lower-threads.auto.image ∙ (c.chain.auto.image ∙ c.requires.0), (omega (arith, p.0), omega (arith, p.0, p.1)))
+pub youngest_in-requires : goal.youngest_in-requires
+youngest_in-requires c = let p = moving_facts _ _ _ _ _ _ c.chain.invariant.0 c.chain-test.true in
+    (c.lower_threads.auto.image ∙ (c.chain.auto.image ∙ c.requires.0), (omega (arith, p.0), omega (arith, p.0, p.1)))
 
 pub cell-k-requires : goal.cell-k-requires
 cell-k-requires c = let p = moving_facts _ _ _ _ _ _ c.chain.invariant.0 c.chain-test.true in
-    (c.lower-threads.auto.image ∙ (c.chain.auto.image ∙ c.requires.0), (omega (arith, p.0), omega (arith, p.0, p.1)))
+    (c.lower_threads.auto.image ∙ (c.chain.auto.image ∙ c.requires.0), (omega (arith, p.0), omega (arith, p.0, p.1)))
 
 pub chain-smaller : goal.chain-smaller
-chain-smaller c = (moving_again _ _ _ _ _ _ _ _ _ _ c.chain.invariant.0 c.chain-test.true c.lower-threads.ensures.bytes c.cell-k.ensures c.youngest-in.ensures c.max-newest.ensures).0
+chain-smaller c = (moving_again _ _ _ _ _ _ _ _ _ _ c.chain.invariant.0 c.chain-test.true c.lower_threads.ensures.bytes c.cell-k.ensures c.youngest_in.ensures c.max-newest.ensures).0
 
 pub chain-preserved : goal.chain-preserved
 chain-preserved c = (
-  (moving_again _ _ _ _ _ _ _ _ _ _ c.chain.invariant.0 c.chain-test.true c.lower-threads.ensures.bytes c.cell-k.ensures c.youngest-in.ensures c.max-newest.ensures).1,
-  outside_then c.chain.invariant.1 c.lower-threads.ensures.rest,
+  (moving_again _ _ _ _ _ _ _ _ _ _ c.chain.invariant.0 c.chain-test.true c.lower_threads.ensures.bytes c.cell-k.ensures c.youngest_in.ensures c.max-newest.ensures).1,
+  outside_then c.chain.invariant.1 c.lower_threads.ensures.rest,
 )

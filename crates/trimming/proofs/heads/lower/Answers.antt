@@ -7,6 +7,6 @@ use Rattle.trimming.proofs.heads.lower.Goals as goal
 
 pub returns : goal.returns
 returns c = record {
-  bytes = ap (λ (D : Dict). D.low) c.patch.ensures.made ∙ ap (set_cell (low_of c.args.d.now.ends.dp c.args.image.now) c.args.a) (lowered _ c.args.w c.args.a c.cell.result _ c.cell.ensures (sym c.first-below.ensures ∙ c.unwrap-x.ensures));
+  bytes = ap (λ (D : Dict). D.low) c.patch.ensures.made ∙ ap (set_cell (low_of c.args.d.now.ends.dp c.args.image.now) c.args.a) (lowered _ c.args.w c.args.a c.cell.result _ c.cell.ensures (sym c.first_below.ensures ∙ c.unwrap-x.ensures));
   rest = c.patch.ensures.rest;
 }

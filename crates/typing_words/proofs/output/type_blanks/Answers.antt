@@ -6,4 +6,4 @@ returns-then-not-fits c = blanks_left c.args.out.now c.args.typed.now c.args.n c
 
 pub returns : goal.returns
 returns c =
-    blanks_typed c.args.out.now c.args.typed.now c.args.n c.add-blanks.new.out c.add-blanks.new.typed c.if-not-fits.ensures c.add-blanks.ensures
+    blanks_typed c.args.out.now c.args.typed.now c.args.n c.add_blanks.new.out c.add_blanks.new.typed c.if-not-fits.ensures c.add_blanks.ensures

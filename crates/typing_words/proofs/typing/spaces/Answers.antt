@@ -5,14 +5,14 @@ use Rattle.typing_words.proofs.Ends.{refuses, ends}
 use Rattle.typing_words.proofs.Doing.{spaces_short, spaces_typed}
 use Rattle.typing_words.proofs.typing.spaces.Goals as goal
 
-pub returns-in-err-need : goal.returns-in-err-need
-returns-in-err-need c =
-    let p = err_from_is_err_and c.from-residual.result c.from-residual.ensures.1 in
-    let h = c.in-err-need.ensures in
+pub returns-in_err-need : goal.returns-in_err-need
+returns-in_err-need c =
+    let p = err_from_is_err_and c.from_residual.result c.from_residual.ensures.1 in
+    let h = c.in_err-need.ensures in
     rw (p.1, p.2) (refuses 54 c.args.registers.now c.args.image.now c.args.cells.now c.args.out.now c.args.typed.now _ StackUnderflow (spaces_short c.args.registers.now c.args.image.now c.args.cells.now c.requires.0 c.requires.1.0 h.0) h.1)
 
 pub returns : goal.returns
 returns c =
-    ends 54 c.args.registers.now c.args.image.now c.args.cells.now c.args.out.now c.args.typed.now c.finish.new.registers c.type-blanks-fitted.new.out c.type-blanks-fitted.new.typed 1 (replicate c.from.result 32) (replicate c.count-of-n.result 32)
-    c.type-blanks-fitted.result c.finish.result (ap (λ y. replicate y 32) c.from.ensures) c.type-blanks-fitted.ensures c.finish.ensures
-    (spaces_typed c.args.registers.now c.args.image.now c.args.cells.now c.requires.0 c.requires.1.0 c.cell.result c.count-of-n.result c.in-ok-need.ensures c.cell.ensures c.count-of-n.ensures)
+    ends 54 c.args.registers.now c.args.image.now c.args.cells.now c.args.out.now c.args.typed.now c.finish.new.registers c.type_blanks-fitted.new.out c.type_blanks-fitted.new.typed 1 (replicate c.from.result 32) (replicate c.count_of-n.result 32)
+    c.type_blanks-fitted.result c.finish.result (ap (λ y. replicate y 32) c.from.ensures) c.type_blanks-fitted.ensures c.finish.ensures
+    (spaces_typed c.args.registers.now c.args.image.now c.args.cells.now c.requires.0 c.requires.1.0 c.cell.result c.count_of-n.result c.in_ok-need.ensures c.cell.ensures c.count_of-n.ensures)

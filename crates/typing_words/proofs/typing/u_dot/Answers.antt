@@ -7,26 +7,26 @@ use Rattle.typing_words.proofs.Ends.{refuses, ends}
 use Rattle.typing_words.proofs.Doing.{u_dot_types, number_short, number_bad, number-typed}
 use Rattle.typing_words.proofs.typing.u_dot.Goals as goal
 
-pub slice-bounds-text-end-2 : goal.slice-bounds-text-end-2
-slice-bounds-text-end-2 c = numeral_long (unsigned_text c.in-ok-base.base c.cell-x.result) c.write-unsigned.new.out c.unsigned-width-width.result c.unsigned-width-width.ensures.exact c.write-unsigned.ensures.defined (within c.unsigned-width-width.result c.unsigned-width-width.ensures.bounded)
+pub slice_bounds-text-end-2 : goal.slice_bounds-text-end-2
+slice_bounds-text-end-2 c = numeral_long (unsigned_text c.in_ok-base.base c.cell-x.result) c.write_unsigned.new.out c.unsigned_width-width.result c.unsigned_width-width.ensures.exact c.write_unsigned.ensures.defined (within c.unsigned_width-width.result c.unsigned_width-width.ensures.bounded)
 
-pub slice-bounds-type-bytes-end : goal.slice-bounds-type-bytes-end
-slice-bounds-type-bytes-end c = numeral_length (unsigned_text c.in-ok-base.base c.cell-x.result) c.write-unsigned.new.out c.unsigned-width-width.result c.unsigned-width-width.ensures.exact c.write-unsigned.ensures.defined (within c.unsigned-width-width.result c.unsigned-width-width.ensures.bounded)
+pub slice_bounds-type_bytes-end : goal.slice_bounds-type_bytes-end
+slice_bounds-type_bytes-end c = numeral_length (unsigned_text c.in_ok-base.base c.cell-x.result) c.write_unsigned.new.out c.unsigned_width-width.result c.unsigned_width-width.ensures.exact c.write_unsigned.ensures.defined (within c.unsigned_width-width.result c.unsigned_width-width.ensures.bounded)
 
-pub returns-in-err-need : goal.returns-in-err-need
-returns-in-err-need c =
-    let p = err_from_is_err_and c.from-residual.result c.from-residual.ensures.1 in
-    let h = c.in-err-need.ensures in
+pub returns-in_err-need : goal.returns-in_err-need
+returns-in_err-need c =
+    let p = err_from_is_err_and c.from_residual.result c.from_residual.ensures.1 in
+    let h = c.in_err-need.ensures in
     rw (p.1, p.2) (refuses 50 c.args.registers.now c.args.image.now c.args.cells.now c.args.out.now c.args.typed.now _ StackUnderflow (number_short c.args.registers.now c.args.image.now c.args.cells.now c.requires.0 c.requires.1.0 50 unsigned_text u_dot_types h.0) h.1)
 
-pub returns-in-err-base : goal.returns-in-err-base
-returns-in-err-base c =
-    let p = err_from_is_err_and c.from-residual-in-err-base.result c.from-residual-in-err-base.ensures.1 in
-    let h = c.in-err-base.ensures in
-    rw (p.1, p.2) (refuses 50 c.args.registers.now c.args.image.now c.args.cells.now c.args.out.now c.args.typed.now _ BadBase (number_bad c.args.registers.now c.args.image.now c.args.cells.now c.requires.0 c.requires.1.0 50 unsigned_text u_dot_types c.in-ok-need.ensures h.0) h.1)
+pub returns-in_err-base : goal.returns-in_err-base
+returns-in_err-base c =
+    let p = err_from_is_err_and c.from_residual-in_err-base.result c.from_residual-in_err-base.ensures.1 in
+    let h = c.in_err-base.ensures in
+    rw (p.1, p.2) (refuses 50 c.args.registers.now c.args.image.now c.args.cells.now c.args.out.now c.args.typed.now _ BadBase (number_bad c.args.registers.now c.args.image.now c.args.cells.now c.requires.0 c.requires.1.0 50 unsigned_text u_dot_types c.in_ok-need.ensures h.0) h.1)
 
 pub returns : goal.returns
 returns c =
-    ends 50 c.args.registers.now c.args.image.now c.args.cells.now c.args.out.now c.args.typed.now c.finish.new.registers c.type-bytes-fitted.new.out c.type-bytes-fitted.new.typed 1 (take (c.unsigned-width-width.result + 1) (c.write-unsigned.new.out ++ drop c.unsigned-width-width.result (replicate 18 32))) (unsigned_text c.in-ok-base.base c.cell-x.result ++ (32 ∷ []))
-    c.type-bytes-fitted.result c.finish.result (numeral_typed (unsigned_text c.in-ok-base.base c.cell-x.result) c.write-unsigned.new.out c.unsigned-width-width.result c.unsigned-width-width.ensures.exact c.write-unsigned.ensures.defined (within c.unsigned-width-width.result c.unsigned-width-width.ensures.bounded)) c.type-bytes-fitted.ensures c.finish.ensures
-    (number-typed c.args.registers.now c.args.image.now c.args.cells.now c.requires.0 c.requires.1.0 50 unsigned_text c.in-ok-base.base c.cell-x.result u_dot_types c.in-ok-need.ensures c.in-ok-base.ensures.0 c.in-ok-base.ensures.1 c.cell-x.ensures)
+    ends 50 c.args.registers.now c.args.image.now c.args.cells.now c.args.out.now c.args.typed.now c.finish.new.registers c.type_bytes-fitted.new.out c.type_bytes-fitted.new.typed 1 (take (c.unsigned_width-width.result + 1) (c.write_unsigned.new.out ++ drop c.unsigned_width-width.result (replicate 18 32))) (unsigned_text c.in_ok-base.base c.cell-x.result ++ (32 ∷ []))
+    c.type_bytes-fitted.result c.finish.result (numeral_typed (unsigned_text c.in_ok-base.base c.cell-x.result) c.write_unsigned.new.out c.unsigned_width-width.result c.unsigned_width-width.ensures.exact c.write_unsigned.ensures.defined (within c.unsigned_width-width.result c.unsigned_width-width.ensures.bounded)) c.type_bytes-fitted.ensures c.finish.ensures
+    (number-typed c.args.registers.now c.args.image.now c.args.cells.now c.requires.0 c.requires.1.0 50 unsigned_text c.in_ok-base.base c.cell-x.result u_dot_types c.in_ok-need.ensures c.in_ok-base.ensures.0 c.in_ok-base.ensures.1 c.cell-x.ensures)

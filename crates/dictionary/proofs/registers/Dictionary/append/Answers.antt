@@ -5,11 +5,11 @@ use Rattle.dictionary.specs.Lent.{dict_of}
 use Rattle.dictionary.proofs.Growing.{refused, accepted, outside_none}
 use Rattle.dictionary.proofs.registers.Dictionary.append.Goals as goal
 
-pub returns-in-err-room : goal.returns-in-err-room
-returns-in-err-room c =
+pub returns-in_err-room : goal.returns-in_err-room
+returns-in_err-room c =
     let l = length-low c.args.self.now.ends.dp c.args.image.now (omega arith) (omega arith) in
-    let p = err_from_is_err_and c.from-residual.result c.from-residual.ensures.1 in
-    let h = c.in-err-room.ensures in
+    let p = err_from_is_err_and c.from_residual.result c.from_residual.ensures.1 in
+    let h = c.in_err-room.ensures in
     record {
       did = refused (length c.args.bytes.now) c.args.told c.args.self.now.ends.dp (dict_of c.args.self.now c.args.image.now) _ _ p.0 l p.1 (p.2 ∙ h.1) h.0;
       rest = outside_none _;
@@ -19,6 +19,6 @@ pub returns : goal.returns
 returns c =
     let l = length-low c.args.self.now.ends.dp c.args.image.now (omega arith) (omega arith) in
     record {
-      did = accepted (length c.args.bytes.now) c.args.told c.args.self.now.ends.dp (dict_of c.args.self.now c.args.image.now) _ _ l c.in-ok-room.ensures c.put.ensures.made;
+      did = accepted (length c.args.bytes.now) c.args.told c.args.self.now.ends.dp (dict_of c.args.self.now c.args.image.now) _ _ l c.in_ok-room.ensures c.put.ensures.made;
       rest = c.put.ensures.rest;
     }

@@ -7,11 +7,11 @@ use Rattle.dictionary.proofs.Growing.{refused, accepted, outside_none, outside_t
 use Rattle.dictionary.proofs.Beginning.{begun-made}
 use Rattle.dictionary.proofs.registers.Dictionary.begin.Goals as goal
 
-pub returns-in-err-room : goal.returns-in-err-room
-returns-in-err-room c =
+pub returns-in_err-room : goal.returns-in_err-room
+returns-in_err-room c =
     let l = length-low c.args.self.now.ends.dp c.args.image.now (omega arith) (omega arith) in
-    let p = err_from_is_err_and c.from-residual.result c.from-residual.ensures.1 in
-    let h = c.in-err-room.ensures in
+    let p = err_from_is_err_and c.from_residual.result c.from_residual.ensures.1 in
+    let h = c.in_err-room.ensures in
     record {
       did = refused (9 + length c.args.name.now + length c.args.rest.now) c.args.told c.args.self.now.ends.dp (dict_of c.args.self.now c.args.image.now) _ _ p.0 l p.1 (p.2 ∙ h.1) h.0;
       end = rw p.1 tt;
@@ -22,9 +22,9 @@ pub returns : goal.returns
 returns c =
     let l = length-low c.args.self.now.ends.dp c.args.image.now (omega arith) (omega arith) in
     record {
-      did = accepted (9 + length c.args.name.now + length c.args.rest.now) c.args.told c.args.self.now.ends.dp (dict_of c.args.self.now c.args.image.now) _ _ l c.in-ok-room.ensures
-          (begun-made (dict_of c.args.self.now c.args.image.now) (dict_of c.put-header.new.self c.put-header.new.image) (dict_of c.put-cell.new.self c.put-cell.new.image) (dict_of c.put.new.self c.put.new.image)
-          c.args.view c.args.flags (spelled c.args.name.now) c.args.code c.args.rest.now c.put-header.ensures.made c.put-cell.ensures.made c.put.ensures.made);
-      end = omega (arith, c.put-header.ensures.dp, c.put-cell.ensures.dp, c.put.ensures.dp);
-      rest = outside_then c.put-header.ensures.rest (outside_then c.put-cell.ensures.rest c.put.ensures.rest);
+      did = accepted (9 + length c.args.name.now + length c.args.rest.now) c.args.told c.args.self.now.ends.dp (dict_of c.args.self.now c.args.image.now) _ _ l c.in_ok-room.ensures
+          (begun-made (dict_of c.args.self.now c.args.image.now) (dict_of c.put_header.new.self c.put_header.new.image) (dict_of c.put_cell.new.self c.put_cell.new.image) (dict_of c.put.new.self c.put.new.image)
+          c.args.view c.args.flags (spelled c.args.name.now) c.args.code c.args.rest.now c.put_header.ensures.made c.put_cell.ensures.made c.put.ensures.made);
+      end = omega (arith, c.put_header.ensures.dp, c.put_cell.ensures.dp, c.put.ensures.dp);
+      rest = outside_then c.put_header.ensures.rest (outside_then c.put_cell.ensures.rest c.put.ensures.rest);
     }

@@ -7,51 +7,40 @@ use Rattle.dictionary.proofs.Growing.{accepted, outside_then}
 use Rattle.dictionary.proofs.Beginning.{room_ok, still-refused, colon-made, kept_open}
 use Rattle.dictionary.proofs.registers.Dictionary.begin_colon.Goals as goal
 
-pub returns-in-err-begin : goal.returns-in-err-begin
-returns-in-err-begin c =
-    let p = err_from_is_err_and c.from-residual.result c.from-residual.ensures.1 in
+pub returns-in_err-begin : goal.returns-in_err-begin
+returns-in_err-begin c =
+    let p = err_from_is_err_and c.from_residual.result c.from_residual.ensures.1 in
     record {
-      did = still-refused (9 + length c.args.name.now + 0) (9 + length c.args.name.now) c.args.told (dict_of c.args.self.now c.args.image.now) _ _ (dict_of c.begin.new.self c.begin.new.image) _ p.0 c.in-err-begin.field-0.0 (omega arith) c.in-err-begin.ensures.did p.1 p.2;
+      did = still-refused (9 + length c.args.name.now + 0) (9 + length c.args.name.now) c.args.told (dict_of c.args.self.now c.args.image.now) _ _ (dict_of c.begin.new.self c.begin.new.image) _ p.0 c.in_err-begin.field-0.0 (omega arith) c.in_err-begin.ensures.did p.1 p.2;
       rest = c.begin.ensures.rest;
     }
 
-pub invariant-of-self : goal.invariant-of-self
-invariant-of-self c =
-    let e = c.in-ok-begin.ensures.end in
+pub invariant_of-self : goal.invariant_of-self
+invariant_of-self c =
+    let e = c.in_ok-begin.ensures.end in
     let D = dict_of c.args.self.now c.args.image.now in
-    let k = kept_open c.begin.new.self.ends.dp c.args.self.now.ends.dp _ c.entry-from-e.ensures in
-    let g = room_ok (9 + length c.args.name.now + 0) c.args.told D _ (dict_of c.begin.new.self c.begin.new.image) c.in-ok-begin.ensures.did in
-    let u : c.begin.new.self.order.current ≡ c.args.self.now.order.current = ap (λ d. d.current) g.0 in (
-      omega arith,
-      (
-        omega arith,
-        (
-          omega arith,
-          (
-            omega arith,
-            (
-              omega arith,
-              (
-                omega arith,
-                (
-                  omega arith,
-                  (
-                    omega arith,
-                    (subst (λ n. 280 ≤ n) (sym k) (omega arith), (subst (λ n. c.begin.new.self.order.current + 10 ≤ n) (sym k) (omega arith), (subst (λ n. c.begin.new.self.order.current + 10 ≤ n) (sym k) (omega arith), tt))),
-                  ),
-                ),
-              ),
-            ),
-          ),
-        ),
-      ),
-    )
+    let k = kept_open c.begin.new.self.ends.dp c.args.self.now.ends.dp _ c.entry_from-e.ensures in
+    let g = room_ok (9 + length c.args.name.now + 0) c.args.told D _ (dict_of c.begin.new.self c.begin.new.image) c.in_ok-begin.ensures.did in
+    let u : c.begin.new.self.order.current ≡ c.args.self.now.order.current = ap (λ d. d.current) g.0 in
+    record {
+      dp_low = omega arith;
+      dp_high = omega arith;
+      here_low = omega arith;
+      context_low = omega arith;
+      context_high = omega arith;
+      current_low = omega arith;
+      current_high = omega arith;
+      opened_high = omega arith;
+      dp_kept = subst (λ n. 280 ≤ n) (sym k) (omega arith);
+      context_kept = subst (λ n. c.begin.new.self.order.current + 10 ≤ n) (sym k) (omega arith);
+      current_kept = subst (λ n. c.begin.new.self.order.current + 10 ≤ n) (sym k) (omega arith);
+    }
 
 pub returns : goal.returns
 returns c =
     let l = length-low c.args.self.now.ends.dp c.args.image.now (omega arith) (omega arith) in
     let D = dict_of c.args.self.now c.args.image.now in
-    let g = room_ok (9 + length c.args.name.now + 0) c.args.told D _ (dict_of c.begin.new.self c.begin.new.image) c.in-ok-begin.ensures.did in
+    let g = room_ok (9 + length c.args.name.now + 0) c.args.told D _ (dict_of c.begin.new.self c.begin.new.image) c.in_ok-begin.ensures.did in
     record {
       did = accepted (9 + length c.args.name.now) c.args.told (length D.low) D _ _ refl (omega arith)
           (colon-made D (dict_of c.begin.new.self c.begin.new.image) c.args.view (spelled c.args.name.now) _ g.0 (omega arith));

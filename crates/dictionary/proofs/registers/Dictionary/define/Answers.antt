@@ -7,12 +7,12 @@ use Rattle.dictionary.proofs.Growing.{accepted, outside_then}
 use Rattle.dictionary.proofs.Beginning.{room_ok, still-refused, defined-made}
 use Rattle.dictionary.proofs.registers.Dictionary.define.Goals as goal
 
-pub returns-in-err-begin : goal.returns-in-err-begin
-returns-in-err-begin c =
-    let p = err_from_is_err_and c.from-residual.result c.from-residual.ensures.1 in
+pub returns-in_err-begin : goal.returns-in_err-begin
+returns-in_err-begin c =
+    let p = err_from_is_err_and c.from_residual.result c.from_residual.ensures.1 in
     let n = 9 + length c.args.name.now + length c.args.rest.now in
     record {
-      did = still-refused n n c.args.told (dict_of c.args.self.now c.args.image.now) _ _ (dict_of c.begin.new.self c.begin.new.image) _ p.0 c.in-err-begin.field-0.0 refl c.in-err-begin.ensures.did p.1 p.2;
+      did = still-refused n n c.args.told (dict_of c.args.self.now c.args.image.now) _ _ (dict_of c.begin.new.self c.begin.new.image) _ p.0 c.in_err-begin.field-0.0 refl c.in_err-begin.ensures.did p.1 p.2;
       end = rw p.1 tt;
       rest = c.begin.ensures.rest;
     }
@@ -21,10 +21,10 @@ pub returns : goal.returns
 returns c =
     let l = length-low c.args.self.now.ends.dp c.args.image.now (omega arith) (omega arith) in
     let D = dict_of c.args.self.now c.args.image.now in
-    let g = room_ok (9 + length c.args.name.now + length c.args.rest.now) c.args.told D _ (dict_of c.begin.new.self c.begin.new.image) c.in-ok-begin.ensures.did in
+    let g = room_ok (9 + length c.args.name.now + length c.args.rest.now) c.args.told D _ (dict_of c.begin.new.self c.begin.new.image) c.in_ok-begin.ensures.did in
     record {
       did = accepted (9 + length c.args.name.now + length c.args.rest.now) c.args.told (length D.low) D _ _ refl g.1
-          (defined-made D (dict_of c.begin.new.self c.begin.new.image) _ c.args.view c.args.flags (spelled c.args.name.now) c.args.code c.args.rest.now _ _ g.0 c.join.ensures.made c.thread-of.ensures (omega arith));
-      end = omega (arith, c.in-ok-begin.ensures.end, c.join.ensures.dp);
+          (defined-made D (dict_of c.begin.new.self c.begin.new.image) _ c.args.view c.args.flags (spelled c.args.name.now) c.args.code c.args.rest.now _ _ g.0 c.join.ensures.made c.thread_of.ensures (omega arith));
+      end = omega (arith, c.in_ok-begin.ensures.end, c.join.ensures.dp);
       rest = outside_then c.begin.ensures.rest c.join.ensures.rest;
     }

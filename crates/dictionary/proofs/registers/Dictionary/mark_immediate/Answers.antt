@@ -11,6 +11,6 @@ returns c =
     let low = low_of c.args.self.now.ends.dp c.args.image.now in
     let a = c.args.self.now.names.newest + 2 in
     record {
-      made = low_only (dict_of c.args.self.now c.args.image.now) _ _ (byte_in c.args.self.now.ends.dp c.args.image.now a c.with-immediate.result (omega arith) (omega arith) (omega arith) ∙ ap (set low a) (c.with-immediate.ensures ∙ ap marked c.byte.ensures));
-      rest = outside_written a _ c.args.image.now _ (omega arith) (omega arith) (omega arith) (set-written c.args.image.now a c.with-immediate.result (omega arith));
+      made = low_only (dict_of c.args.self.now c.args.image.now) _ _ (byte_in c.args.self.now.ends.dp c.args.image.now a c.with_immediate.result (omega arith) (omega arith) (omega arith) ∙ ap (set low a) (c.with_immediate.ensures ∙ ap marked c.byte.ensures));
+      rest = outside_written a _ c.args.image.now _ (omega arith) (omega arith) (omega arith) (set-written c.args.image.now a c.with_immediate.result (omega arith));
     }

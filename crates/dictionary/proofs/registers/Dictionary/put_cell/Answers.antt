@@ -7,7 +7,7 @@ use Rattle.dictionary.proofs.registers.Dictionary.put_cell.Goals as goal
 
 pub returns : goal.returns
 returns c =
-    let e = bytes_of_cell c.args.x _ c.cell-bytes.ensures in
+    let e = bytes_of_cell c.args.x _ c.cell_bytes.ensures in
     record {
       made = c.put.ensures.made ∙ ap (λ b. appended b (dict_of c.args.self.now c.args.image.now)) e.0;
       dp = omega (arith, c.put.ensures.dp, e.1);

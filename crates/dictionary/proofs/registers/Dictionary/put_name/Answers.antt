@@ -14,7 +14,7 @@ pub loop-i-preserved : goal.loop-i-preserved
 loop-i-preserved c =
     let l = length-spelled c.args.name.now in
     let t = take_more (spelled c.args.name.now) c.loop-i.i 0 (omega arith) in (
-      appended-two _ _ _ _ _ _ c.loop-i.invariant.0 c.put.ensures.made (ap (λ b. take c.loop-i.i (spelled c.args.name.now) ++ b ∷ []) c.held-byte.ensures ∙ sym t),
+      appended-two _ _ _ _ _ _ c.loop-i.invariant.0 c.put.ensures.made (ap (λ b. take c.loop-i.i (spelled c.args.name.now) ++ b ∷ []) c.held_byte.ensures ∙ sym t),
       (omega (arith, c.put.ensures.dp, c.loop-i.invariant.1.0), outside_then c.loop-i.invariant.1.1 c.put.ensures.rest),
     )
 

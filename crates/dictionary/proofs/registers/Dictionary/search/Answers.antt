@@ -2,9 +2,9 @@ use Rattle.std.proofs.Common.{rules}
 use Rattle.dictionary.specs.Search.{searched}
 use Rattle.dictionary.proofs.registers.Dictionary.search.Goals as goal
 
-pub returns-in-err-e : goal.returns-in-err-e
+pub returns-in_err-e : goal.returns-in_err-e
 unfolding searched
-returns-in-err-e c = search rules
+returns-in_err-e c = search rules
 
 pub returns-in-Some : goal.returns-in-Some
 unfolding searched

@@ -6,22 +6,22 @@ use Rattle.dictionary.specs.Lent.{dict_of}
 use Rattle.dictionary.proofs.Growing.{outside_then}
 use Rattle.dictionary.proofs.registers.Dictionary.set_does.Goals as goal
 
-pub first-parameter-first-requires : goal.first-parameter-first-requires
-first-parameter-first-requires c =
+pub first_parameter-first-requires : goal.first_parameter-first-requires
+first_parameter-first-requires c =
     let f = first_above (low_of c.args.self.now.ends.dp c.args.image.now) c.args.self.now.names.newest in
     (c.requires.0, (omega arith, (omega arith, omega arith)))
 
-pub overflow-sub-first : goal.overflow-sub-first
-overflow-sub-first c =
+pub overflow_sub-first : goal.overflow_sub-first
+overflow_sub-first c =
     let f = first_above (low_of c.args.self.now.ends.dp c.args.image.now) c.args.self.now.names.newest in
-    omega (arith, c.first-parameter-first.ensures)
+    omega (arith, c.first_parameter-first.ensures)
 
 pub patch-requires : goal.patch-requires
 patch-requires c =
     let f = first_above (low_of c.args.self.now.ends.dp c.args.image.now) c.args.self.now.names.newest in
-    (c.requires.0, (omega (arith, c.first-parameter-first.ensures), omega (arith, c.first-parameter-first.ensures)))
+    (c.requires.0, (omega (arith, c.first_parameter-first.ensures), omega (arith, c.first_parameter-first.ensures)))
 
 pub patch-requires-2 : goal.patch-requires-2
 patch-requires-2 c =
     let f = first_above (low_of c.args.self.now.ends.dp c.args.image.now) c.args.self.now.names.newest in
-    (omega arith, (omega (arith, c.first-parameter-first.ensures), omega (arith, c.first-parameter-first.ensures)))
+    (omega arith, (omega (arith, c.first_parameter-first.ensures), omega (arith, c.first_parameter-first.ensures)))

@@ -6,4 +6,4 @@ use Rattle.store.proofs.memory_card.MemoryCardStore.write.Goals as goal
 pub returns : goal.returns
 returns c =
     let h : c.args.n < memory_blocks c.args.self.now.bytes.now = omega arith in
-    (h, refl, put_at c.args.self.now.bytes.now c.copy-from-slice.new.self c.args.from.now c.args.n c.block-start-start.result c.block-start-start.ensures h c.copy-from-slice.ensures.after c.requires)
+    (h, refl, put_at c.args.self.now.bytes.now c.copy_from_slice.new.self c.args.from.now c.args.n c.block_start-start.result c.block_start-start.ensures h c.copy_from_slice.ensures.after c.requires)

@@ -5,7 +5,7 @@ use Rattle.texts.proofs.name.Name.text.Goals as goal
 
 pub returns : goal.returns
 returns c =
-    let e = ap (λ n. take n c.args.self.now.bytes) c.bytes-used.ensures in
+    let e = ap (λ n. take n c.args.self.now.bytes) c.bytes_used.ensures in
     let P : List ℕ → Type 0 = λ bs. is_name bs ≡ true in
     let h = subst P (sym e) c.args.self.now.named in
-    record { value = e; least = name_least (take c.bytes-used.result c.args.self.now.bytes) h; most = name_most (take c.bytes-used.result c.args.self.now.bytes) h; ascii = name_ascii (take c.bytes-used.result c.args.self.now.bytes) h }
+    record { value = e; least = name_least (take c.bytes_used.result c.args.self.now.bytes) h; most = name_most (take c.bytes_used.result c.args.self.now.bytes) h; ascii = name_ascii (take c.bytes_used.result c.args.self.now.bytes) h }
