@@ -8,7 +8,7 @@ use Rattle.image.specs.Views.{low_of, high_of, line_of}
 use Rattle.image.specs.Writes.{overwritten, moved_up}
 use Rattle.image.proofs.Overwriting.{overwritten-none, take-before}
 use Rattle.image.proofs.Laws.{length_high, low-kept, line_kept, high-within}
-use Rattle.image.proofs.Moving.{low-moved, line-moved, high-moved}
+use Rattle.image.proofs.Moving.{low_moved, line_moved, high_moved}
 use Rattle.definition.specs.declared.registers.Mark.{Mark}
 use Rattle.definition.specs.declared.ranged.Registers.{Registers}
 use Rattle.definition.specs.Machine.{Machine, here, with_high, with_cells}
@@ -85,9 +85,9 @@ moved_views r i i' (suc n) from to l p q e = at (reached from (suc n) r.shared.e
         let f : to + suc n ≤ length i = omega (arith, r.limit, z.1) in
         let lh : length (high_of r.shared.ends.here i) ≡ r.shared.ends.here - 32768 = length_high r.shared.ends.here i (omega (arith, r.limit)) in
         record {
-          low = ap (low_of r.shared.ends.dp) e ∙ low-moved (suc n) from to r.shared.ends.dp i f (omega (arith, r.top, z.0));
-          line = ap line_of e ∙ line-moved (suc n) from to i f (omega (arith, z.0));
-          high = ap (high_of r.shared.ends.here) e ∙ high-moved (suc n) from to r.shared.ends.here i y.0 y.1 z.0 z.1 (omega (arith, r.limit)) ∙ sym (moved_on_lem (suc n) from to (high_of r.shared.ends.here i) y.0 z.0 (omega (arith, z.0, z.1, lh)));
+          low = ap (low_of r.shared.ends.dp) e ∙ low_moved (suc n) from to r.shared.ends.dp i f (omega (arith, r.top, z.0));
+          line = ap line_of e ∙ line_moved (suc n) from to i f (omega (arith, z.0));
+          high = ap (high_of r.shared.ends.here) e ∙ high_moved (suc n) from to r.shared.ends.here i y.0 y.1 z.0 z.1 (omega (arith, r.limit)) ∙ sym (moved_on_lem (suc n) from to (high_of r.shared.ends.here i) y.0 z.0 (omega (arith, z.0, z.1, lh)));
           below = ap (take 256) e ∙ take-moved (suc n) from to i (omega (arith, z.0));
         }
 
