@@ -3,8 +3,8 @@
 
 usage: python3 tools/respell.py [--check]      at the top of the repository; --check writes nothing and prints the table
 
-Functions, lemmas, fields and constructors go to snake case; a dash stays only where it joins two functions' names, as in
-`length-spelled`; a lemma that would have a definition's name gets `_lem`; a statement that was spelled with a dash goes to
+Functions, lemmas, fields and constructors go to snake case; a dash stays only where a lemma's name joins the names of a list's
+function and of another, as in `length-spelled`; a lemma that would have a definition's name gets `_lem`; a statement that was spelled with a dash goes to
 camel case, as `Fault-keeps` to `FaultKeeps`. Names that the Rust sources declare, strings, inputs and outputs keep their
 spelling, and so do the names that the check makes for a function's goals and steps. Two old names that would fall together
 in one file stop the script before it writes anything.
@@ -22,7 +22,8 @@ QUIET = re.compile(r'"(?:[^"\\\n]|\\.)*"|--[^\n]*')
 QUIET_RUST = re.compile(r'"(?:[^"\\]|\\.)*"|//[^\n]*|b?\'(?:\\.|[^\'\\])\'')
 MADE_HEADS = {"c", "goal", "w", "l", "g", "need"}
 HOLDERS = {"args", "initial", "fn", "new", "auto", "ranges", "row"}
-MADE = re.compile(r"^(returns|loop|decreases|invariant|overflow|slice-bounds|index|ghost|if|in|then|else)-")
+GOAL = re.compile(r"(?m)^(?:abbrev |pub )*(\S+) : goal\.")
+TOP = re.compile(r'(?m)^(?:abbrev |unfoldable |pub )+([^\s(){}.;,@"«»]+)(?: \{[^{}\n]*\})* : .*→')
 LIBRARY = set(
     "length take drop set reverse map replicate append get_or slice_index slice_index_or min max sum cond not put_mid".split()
 )
@@ -69,16 +70,21 @@ def respelled(name, functions):
         return name
     parts = [words_of(p) for p in name.split("-")]
     new = parts[0]
-    for before, part in zip(parts, parts[1:]):
-        new += ("-" if before in functions and part in functions else "_") + part
+    joined = parts[0] in LIBRARY and all(part in functions for part in parts[1:])
+    for part in parts[1:]:
+        new += ("-" if joined else "_") + part
     return new
 
 
 def main():
     check = "--check" in sys.argv[1:]
     declared, functions, defined = set(), set(LIBRARY), set()
+    goals = set()
     for path in texts():
-        if not path.endswith(".antt") or is_of_function(path):
+        if not path.endswith(".antt"):
+            continue
+        if is_of_function(path):
+            goals |= set(GOAL.findall(read(path)))
             continue
         code = QUIET.sub(lambda m: " " * len(m[0]), read(path))
         names = set(DECLARED.findall(code))
@@ -87,8 +93,8 @@ def main():
         declared |= names
         if "/specs/" in path:
             defined |= names
-            functions |= {words_of(n) for n in names if n[0].islower() and "-" not in n}
-    declared = {n for n in declared if not MADE.match(n) or not re.search("-", n) or n in BY_HAND} | set(BY_HAND)
+            functions |= {words_of(n) for n in TOP.findall(code) if n[0].islower() and "-" not in n}
+    declared = {n for n in declared if n not in goals} | set(BY_HAND)
     table = {n: respelled(n, functions) for n in declared}
     taken = {table[n] for n in defined & declared}
     table = {n: new + "_lem" if n not in defined and new in taken else new for n, new in table.items()}

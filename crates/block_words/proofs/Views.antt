@@ -11,7 +11,7 @@ use Rattle.fault.specs.Numbers.{fault_of}
 use Rattle.store.specs.Meaning.{Meaning, block, written}
 use Rattle.image.specs.Views.{low_of, high_of, line_of}
 use Rattle.image.specs.Writes.{overwritten}
-use Rattle.image.proofs.Laws.{low-kept, line_kept, high-within}
+use Rattle.image.proofs.Laws.{low_kept, line_kept, high_within}
 use Rattle.image.proofs.Overwriting.{take-before, overwritten_part}
 use Rattle.definition.specs.declared.registers.Buffer.{Buffer}
 use Rattle.definition.specs.declared.registers.Mark.{Mark}
@@ -35,25 +35,25 @@ no : (n k : ℕ) → k ≤ n → ltb n k ≡ false
 no n k h = grind (arith, nat_tests)
 
 -- the buffer's bytes
-high-buffer : (h : ℕ) (i : List ℕ) → 34048 ≤ h → take 1024 (drop 256 (high_of h i)) ≡ take 1024 (drop 33024 i)
+high_buffer : (h : ℕ) (i : List ℕ) → 34048 ≤ h → take 1024 (drop 256 (high_of h i)) ≡ take 1024 (drop 33024 i)
 unfolding high_of
-high-buffer h i l =
+high_buffer h i l =
     let n : h - 32768 ≡ 256 + (h - 33024) = omega arith in
     ap (λ z. take 1024 (drop 256 (take z (drop 32768 i)))) n
     ∙ ap (take 1024) (drop-take 256 (h - 33024) (drop 32768 i))
     ∙ take-take 1024 (h - 33024) (drop 256 (drop 32768 i)) (omega arith)
     ∙ ap (take 1024) (drop-drop 256 32768 i)
 
-pub buffer-seen : (r : Registers) (i c t : List ℕ) (k : List Mark) (s : Meaning) → buffer_of (seen r i c t k s) ≡ take 1024 (drop 33024 i)
-buffer-seen r i c t k s = high-buffer r.shared.ends.here i r.space
+pub buffer_seen : (r : Registers) (i c t : List ℕ) (k : List Mark) (s : Meaning) → buffer_of (seen r i c t k s) ≡ take 1024 (drop 33024 i)
+buffer_seen r i c t k s = high_buffer r.shared.ends.here i r.space
 
 -- registers whose buffer was assigned, over a store
 pub record Assigned (r r' : Registers) (b : Buffer) : Type 0 where
   pub shared : r'.shared ≡ with_buffer b r.shared
   pub seat : r'.seat ≡ r.seat
 
-pub blocks-view : (r r' : Registers) (b : Buffer) (i c t : List ℕ) (k : List Mark) (s s' : Meaning) → Assigned r r' b → seen r' i c t k s' ≡ with_blocks b.held b.updated s' (seen r i c t k s)
-blocks-view r r' b i c t k s s' a =
+pub blocks_view : (r r' : Registers) (b : Buffer) (i c t : List ℕ) (k : List Mark) (s s' : Meaning) → Assigned r r' b → seen r' i c t k s' ≡ with_blocks b.held b.updated s' (seen r i c t k s)
+blocks_view r r' b i c t k s s' a =
     ap (λ y. view_of y r'.seat (lent i c t k) s') a.shared ∙ ap (λ y. view_of (with_buffer b r.shared) y (lent i c t k) s') a.seat
 
 pub refuses_on : {A B : Type 0} (x : Asked A) (f : A → Asked B) (e : Fault) (m : Machine) → IsRefused x e m → IsRefused (x >>= f) e m
@@ -61,28 +61,28 @@ refuses_on (refused why m') f e m h = h
 refuses_on (given a) f e m h = absurd h
 
 -- how the definition comes to its answers
-saved-not : (m : Machine) → m.buffer.updated ≡ false → saved m ≡ given m
-saved-not m p = rw p
+saved_not : (m : Machine) → m.buffer.updated ≡ false → saved m ≡ given m
+saved_not m p = rw p
 
 abbrev out : Machine → Option ℕ → Asked Machine
 out m None = given m
 out m (Some n) = written_to n m
 
-if-updated : (m : Machine) → m.buffer.updated ≡ true → saved m ≡ out m m.buffer.held
-if-updated m p = ap (λ u. if u then elim m.buffer.held [ None ↦ given m | Some n ↦ written_to n m ] else given m) p ∙ at m.buffer.held
+if_updated : (m : Machine) → m.buffer.updated ≡ true → saved m ≡ out m m.buffer.held
+if_updated m p = ap (λ u. if u then elim m.buffer.held [ None ↦ given m | Some n ↦ written_to n m ] else given m) p ∙ at m.buffer.held
   where
     at : (h : Option ℕ) → elim h [ None ↦ given m | Some n ↦ written_to n m ] ≡ out m h
     at None = refl
     at (Some n) = refl
 
-saved-none : (m : Machine) → m.buffer.updated ≡ true → m.buffer.held ≡ None → saved m ≡ given m
-saved-none m p q = if-updated m p ∙ ap (out m) q
+saved_none : (m : Machine) → m.buffer.updated ≡ true → m.buffer.held ≡ None → saved m ≡ given m
+saved_none m p q = if_updated m p ∙ ap (out m) q
 
-saved-some : (m : Machine) (n : ℕ) → m.buffer.updated ≡ true → m.buffer.held ≡ Some n → saved m ≡ written_to n m
-saved-some m n p q = if-updated m p ∙ ap (out m) q
+saved_some : (m : Machine) (n : ℕ) → m.buffer.updated ≡ true → m.buffer.held ≡ Some n → saved m ≡ written_to n m
+saved_some m n p q = if_updated m p ∙ ap (out m) q
 
-written-done : (m : Machine) (n : ℕ) → ltb n m.store.count ≡ true → m.store.writable ≡ true → written_to n m ≡ given (with_blocks (Some n) false (written m.store n (buffer_of m)) m)
-written-done m n p q = rw (p, q)
+written_done : (m : Machine) (n : ℕ) → ltb n m.store.count ≡ true → m.store.writable ≡ true → written_to n m ≡ given (with_blocks (Some n) false (written m.store n (buffer_of m)) m)
+written_done m n p q = rw (p, q)
 
 written_beyond : (m : Machine) (n : ℕ) → ltb n m.store.count ≡ false → written_to n m ≡ refused NoBlock m
 written_beyond m n p = rw p
@@ -96,11 +96,11 @@ read_from_lem m n p = rw p
 read_beyond : (m : Machine) (n : ℕ) → ltb n m.store.count ≡ false → read_from n m ≡ refused NoBlock m
 read_beyond m n p = rw p
 
-brought-held : (m : Machine) (n : ℕ) → is_held n m ≡ true → brought n m ≡ given m
-brought-held m n p = rw p
+brought_held : (m : Machine) (n : ℕ) → is_held n m ≡ true → brought n m ≡ given m
+brought_held m n p = rw p
 
-brought-not : (m : Machine) (n : ℕ) → is_held n m ≡ false → brought n m ≡ (saved m >>= read_from n)
-brought-not m n p = rw p
+brought_not : (m : Machine) (n : ℕ) → is_held n m ≡ false → brought n m ≡ (saved m >>= read_from n)
+brought_not m n p = rw p
 
 pub refuses_at : {A : Type 0} (x : Asked A) (why : Reason) (m m' : Machine) (e : Fault) → x ≡ refused why m → e ≡ fault_of why (told m) → cleared m ≡ cleared m' → IsRefused x e m'
 refuses_at x why m m' e p q f = rw p (q, f)
@@ -108,27 +108,27 @@ refuses_at x why m m' e p q f = rw p (q, f)
 -- an updated buffer written out
 module _ (r : Registers) (i : List ℕ) (s : Meaning) where
   pub not_updated : r.shared.buffer.updated ≡ false → Brings saved r i s (Ok tt) r i s
-  not_updated p c t k = saved-not (seen r i c t k s) p
+  not_updated p c t k = saved_not (seen r i c t k s) p
 
-  pub none-held : r.shared.buffer.held ≡ None → Brings saved r i s (Ok tt) r i s
-  none-held p c t k = at r.shared.buffer.updated refl
+  pub none_held : r.shared.buffer.held ≡ None → Brings saved r i s (Ok tt) r i s
+  none_held p c t k = at r.shared.buffer.updated refl
     where
       at : (u : Bool) → r.shared.buffer.updated ≡ u → saved (seen r i c t k s) ≡ given (seen r i c t k s)
-      at true q = saved-none (seen r i c t k s) q p
-      at false q = saved-not (seen r i c t k s) q
+      at true q = saved_none (seen r i c t k s) q p
+      at false q = saved_not (seen r i c t k s) q
 
   module _ (n : ℕ) (p : r.shared.buffer.updated ≡ true) (q : r.shared.buffer.held ≡ Some n) where
     writes : (c t : List ℕ) (k : List Mark) → saved (seen r i c t k s) ≡ written_to n (seen r i c t k s)
-    writes c t k = saved-some (seen r i c t k s) n p q
+    writes c t k = saved_some (seen r i c t k s) n p q
 
     pub wrote : (r' : Registers) (b : Buffer) (s' : Meaning) → n < s.count → s.writable ≡ true → s' ≡ written s n (take 1024 (drop 33024 i)) → b ≡ record { held = Some n; updated = false } → Assigned r r' b → Brings saved r i s (Ok tt) r' i s'
     wrote r' b s' l w e f a c t k =
         let m = seen r i c t k s in
-        writes c t k ∙ written-done m n (yes n s.count l) w ∙ ap given (
-        ap (λ y. with_blocks (Some n) false (written s n y) m) (buffer-seen r i c t k s)
+        writes c t k ∙ written_done m n (yes n s.count l) w ∙ ap given (
+        ap (λ y. with_blocks (Some n) false (written s n y) m) (buffer_seen r i c t k s)
         ∙ ap (λ y. with_blocks (Some n) false y m) (sym e)
         ∙ ap (λ (y : Buffer). with_blocks y.held y.updated s' m) (sym f)
-        ∙ sym (blocks-view r r' b i c t k s s' a))
+        ∙ sym (blocks_view r r' b i c t k s s' a))
 
     pub write_refused : (s' : Meaning) (e : Fault) (at : Place) → at ≡ told_by r.seat → (s' ≡ s) × (((s.count ≤ n) × (e ≡ fault_of NoBlock at)) ⊎ ((n < s.count) × (s.writable ≡ false) × (e ≡ fault_of NotWritable at))) → Brings saved r i s (Err e) r i s'
     write_refused s' e at q h c t k = subst (λ y. IsRefused y e (seen r i c t k s')) (sym (writes c t k)) (either h.1)
@@ -157,8 +157,8 @@ module _ (r : Registers) (i : List ℕ) (s : Meaning) (n : ℕ) where
   filled i' new c t k l ln e =
       let f : 33024 + length new ≤ length i = omega (arith, ln) in
       ap (λ y. seen r y c t k s) e
-      ∙ ap (λ y. rewritten (seen r i c t k s) y (high_of r.shared.ends.here (overwritten 33024 new i)) (line_of (overwritten 33024 new i))) (low-kept 33024 new i f r.shared.ends.dp (omega (arith, r.top)))
-      ∙ ap (λ y. rewritten (seen r i c t k s) (low_of r.shared.ends.dp i) y (line_of (overwritten 33024 new i))) (high-within 33024 new i f r.shared.ends.here (omega arith) (omega (arith, r.space, ln)) (omega (arith, r.limit)))
+      ∙ ap (λ y. rewritten (seen r i c t k s) y (high_of r.shared.ends.here (overwritten 33024 new i)) (line_of (overwritten 33024 new i))) (low_kept 33024 new i f r.shared.ends.dp (omega (arith, r.top)))
+      ∙ ap (λ y. rewritten (seen r i c t k s) (low_of r.shared.ends.dp i) y (line_of (overwritten 33024 new i))) (high_within 33024 new i f r.shared.ends.here (omega arith) (omega (arith, r.space, ln)) (omega (arith, r.limit)))
       ∙ ap (λ y. rewritten (seen r i c t k s) (low_of r.shared.ends.dp i) (overwritten 256 new (high_of r.shared.ends.here i)) y) (line_kept 33024 new i f (omega arith))
 
   pub read_done : (r' : Registers) (b : Buffer) (i' new : List ℕ) → length i ≡ 65536 → n < s.count → new ≡ block s n → length new ≡ 1024 → i' ≡ overwritten 33024 new i → b ≡ record { held = Some n; updated = false } → Assigned r r' b → Brings (read_from n) r i s (Ok tt) r' i' s
@@ -167,7 +167,7 @@ module _ (r : Registers) (i : List ℕ) (s : Meaning) (n : ℕ) where
       ap (λ y. with_blocks (Some n) false s (stored 33024 y (seen r i c t k s))) (sym g)
       ∙ ap (λ y. with_blocks (Some n) false s y) (sym (filled i' new c t k li ln e))
       ∙ ap (λ (y : Buffer). with_blocks y.held y.updated s (seen r i' c t k s)) (sym f)
-      ∙ sym (blocks-view r r' b i' c t k s s a))
+      ∙ sym (blocks_view r r' b i' c t k s s a))
 
   pub below_same : (i' new : List ℕ) → length i ≡ 65536 → length new ≡ 1024 → i' ≡ overwritten 33024 new i → take 256 i' ≡ take 256 i
   below_same i' new l ln e = ap (take 256) e ∙ take-before 256 33024 new i (omega arith) (omega arith)
@@ -197,11 +197,11 @@ module _ (r : Registers) (i : List ℕ) (s : Meaning) (n : ℕ) where
   is-held c t k = held_is r.shared.buffer.held n
 
   pub bring_held : holding r.shared.buffer.held n ≡ true → Brings (brought n) r i s (Ok tt) r i s
-  bring_held h c t k = brought-held (seen r i c t k s) n (is-held c t k ∙ h)
+  bring_held h c t k = brought_held (seen r i c t k s) n (is-held c t k ∙ h)
 
   module _ (h : holding r.shared.buffer.held n ≡ false) where
     brings : (c t : List ℕ) (k : List Mark) → brought n (seen r i c t k s) ≡ (saved (seen r i c t k s) >>= read_from n)
-    brings c t k = brought-not (seen r i c t k s) n (is-held c t k ∙ h)
+    brings c t k = brought_not (seen r i c t k s) n (is-held c t k ∙ h)
 
     pub bring_refused : (r' : Registers) (e : Fault) (s' : Meaning) → Brings saved r i s (Err e) r' i s' → Brings (brought n) r i s (Err e) r' i s'
     bring_refused r' e s' g c t k = subst (λ y. IsRefused y e (seen r' i c t k s')) (sym (brings c t k)) (refuses_on (saved (seen r i c t k s)) (read_from n) e (seen r' i c t k s') (g c t k))

@@ -13,7 +13,7 @@ use Rattle.steps.specs.declared.progress.Progress.{Progress}
 use Rattle.steps.specs.Seats.{told_by}
 use Rattle.steps.specs.Does.{seen, acts, Does, Did, OnCells, OnSpace, OnBlocks, FromText, FromState}
 use Rattle.codes.specs.Performs.{coded, went_by, Memory, memory, Acts, Performs, FullKeeps}
-use Rattle.codes.proofs.Lifting.{Asking, bare, did_by, quiet, plain-did, kernel-does, if-false}
+use Rattle.codes.proofs.Lifting.{Asking, bare, did_by, quiet, plain_did, kernel_does, if_false}
 
 -- a word that types nothing leaves no full output
 pub never_full : (o : Result (Unit {0}) Fault) (p : Result Progress Fault) (c c' : List ℕ) → p ≡ went_by o → FullKeeps p c c'
@@ -33,15 +33,15 @@ module _ (num code t : ℕ) (r r' : Registers) (o : Result (Unit {0}) Fault) (p 
 
   -- by its row of the kernel table, where it asks nothing of the state
   acts-performs : Asking num [] → ((again : ℕ → Machine → Asked After) → Did (acts num again (bare (seen r i c e k s)) (seen r i c e k s)) o (seen r' i' c' e' k' s')) → Performs code t r (memory i c e k out n s) p r' (memory i' c' e' k' out n s')
-  acts-performs a h = coded_performs (λ again. plain-did num t a again (seen r i c e k s) (seen r' i' c' e' k' s') o (h again))
+  acts-performs a h = coded_performs (λ again. plain_did num t a again (seen r i c e k s) (seen r' i' c' e' k' s') o (h again))
 
   pub does_performs : (leb 1 num && leb num 105) ≡ true → ((again : ℕ → Machine → Asked After) → Did (do_kernel again (row_of num) (seen r i c e k s)) o (seen r' i' c' e' k' s')) → Performs code t r (memory i c e k out n s) p r' (memory i' c' e' k' out n s')
-  does_performs a h = coded_performs (λ again. subst (λ y. Did y o (seen r' i' c' e' k' s')) (sym (kernel-does again num t (seen r i c e k s) a)) (h again))
+  does_performs a h = coded_performs (λ again. subst (λ y. Did y o (seen r' i' c' e' k' s')) (sym (kernel_does again num t (seen r i c e k s) a)) (h again))
 
   pub other_performs : (leb 1 num && leb num 105) ≡ false → Does (other_word num t) (seen r i c e k s) o (seen r' i' c' e' k' s') → Performs code t r (memory i c e k out n s) p r' (memory i' c' e' k' out n s')
   other_performs a h =
       coded_performs
-      (λ again. subst (λ y. Did y o (seen r' i' c' e' k' s')) (sym (if-false (leb 1 num && leb num 105) (do_kernel again (row_of num) (seen r i c e k s)) (other_word num t (seen r i c e k s)) a))
+      (λ again. subst (λ y. Did y o (seen r' i' c' e' k' s')) (sym (if_false (leb 1 num && leb num 105) (do_kernel again (row_of num) (seen r i c e k s)) (other_word num t (seen r i c e k s)) a))
       (did_by (other_word num t) (seen r i c e k s) (seen r' i' c' e' k' s') o h))
 
   pub blocks_performs : Asking num [] → OnBlocks num r i c s o r' i' c' s' → e' ≡ e → k' ≡ k → Performs code t r (memory i c e k out n s) p r' (memory i' c' e' k' out n s')

@@ -47,16 +47,16 @@ pub record Asking (code : ℕ) (qs : List Asks) : Type 0 where
 abbrev pub bare : Machine → Argument
 bare m = record { machine = m; bytes = []; entry = 0 }
 
-if-true : {A : Type 0} (b : Bool) (x y : A) → b ≡ true → (if b then x else y) ≡ x
-if-true true x y p = refl
-if-true false x y p = absurd (Tests.false≢true p)
+if_true : {A : Type 0} (b : Bool) (x y : A) → b ≡ true → (if b then x else y) ≡ x
+if_true true x y p = refl
+if_true false x y p = absurd (Tests.false≢true p)
 
-pub if-false : {A : Type 0} (b : Bool) (x y : A) → b ≡ false → (if b then x else y) ≡ y
-if-false false x y p = refl
-if-false true x y p = absurd (Tests.false≢true (sym p))
+pub if_false : {A : Type 0} (b : Bool) (x y : A) → b ≡ false → (if b then x else y) ≡ y
+if_false false x y p = refl
+if_false true x y p = absurd (Tests.false≢true (sym p))
 
-pub kernel-does : (again : ℕ → Machine → Asked After) (code t : ℕ) (m : Machine) → (leb 1 code && leb code 105) ≡ true → coded again code t m ≡ does code again m
-kernel-does again code t m p = if-true (leb 1 code && leb code 105) (do_kernel again (row_of code) m) (other_word code t m) p
+pub kernel_does : (again : ℕ → Machine → Asked After) (code t : ℕ) (m : Machine) → (leb 1 code && leb code 105) ≡ true → coded again code t m ≡ does code again m
+kernel_does again code t m p = if_true (leb 1 code && leb code 105) (do_kernel again (row_of code) m) (other_word code t m) p
 
 row_asked : (again : ℕ → Machine → Asked After) (r : Kernel.Row) (m : Machine) (qs : List Asks) → r.takes ≡ Kernel.nothing → r.asks ≡ qs → do_kernel again r m ≡ (all_asked qs m >> perform again r.action (bare m) m)
 unfolding do_kernel taken
@@ -65,14 +65,14 @@ row_asked again r m qs p q =
     ∙ ap (λ z. all_asked z m >> perform again r.action (bare m) m) q
 
 pub asked_first : (again : ℕ → Machine → Asked After) (code t : ℕ) (m : Machine) (qs : List Asks) → Asking code qs → coded again code t m ≡ (all_asked qs m >> acts code again (bare m) m)
-asked_first again code t m qs a = kernel-does again code t m a.kernel ∙ row_asked again (row_of code) m qs a.takes a.asks
+asked_first again code t m qs a = kernel_does again code t m a.kernel ∙ row_asked again (row_of code) m qs a.takes a.asks
 
 -- words that ask nothing of the state
-pub plain-acts : (code t : ℕ) → Asking code [] → (m : Machine) → (again : ℕ → Machine → Asked After) → coded again code t m ≡ acts code again (bare m) m
-plain-acts code t a m again = asked_first again code t m [] a
+pub plain_acts : (code t : ℕ) → Asking code [] → (m : Machine) → (again : ℕ → Machine → Asked After) → coded again code t m ≡ acts code again (bare m) m
+plain_acts code t a m again = asked_first again code t m [] a
 
-pub plain-did : (code t : ℕ) → Asking code [] → (again : ℕ → Machine → Asked After) (m m' : Machine) (o : Result (Unit {0}) Fault) → Did (acts code again (bare m) m) o m' → Did (coded again code t m) o m'
-plain-did code t a again m m' o h = subst (λ y. Did y o m') (sym (plain-acts code t a m again)) h
+pub plain_did : (code t : ℕ) → Asking code [] → (again : ℕ → Machine → Asked After) (m m' : Machine) (o : Result (Unit {0}) Fault) → Did (acts code again (bare m) m) o m' → Did (coded again code t m) o m'
+plain_did code t a again m m' o h = subst (λ y. Did y o m') (sym (plain_acts code t a m again)) h
 
 -- words that ask one thing of the state
 abbrev pub holds : Asks → Machine → Bool

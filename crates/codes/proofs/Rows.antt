@@ -82,14 +82,14 @@ pub appending_rows : (w : AppendingWord) → Asking (appending_number w) (Kernel
 appending_rows AppendingWord.Comma = record { kernel = refl; takes = refl; asks = refl }
 appending_rows AppendingWord.CComma = record { kernel = refl; takes = refl; asks = refl }
 
-pub returns-rows : (w : ReturnsWord) → Asking (returns_number w) (Kernel.ipSet ∷ [])
-returns-rows ReturnsWord.Exit = record { kernel = refl; takes = refl; asks = refl }
-returns-rows ReturnsWord.ToR = record { kernel = refl; takes = refl; asks = refl }
-returns-rows ReturnsWord.RFrom = record { kernel = refl; takes = refl; asks = refl }
-returns-rows ReturnsWord.RFetch = record { kernel = refl; takes = refl; asks = refl }
-returns-rows ReturnsWord.Index = record { kernel = refl; takes = refl; asks = refl }
-returns-rows ReturnsWord.OuterIndex = record { kernel = refl; takes = refl; asks = refl }
-returns-rows ReturnsWord.Leave = record { kernel = refl; takes = refl; asks = refl }
+pub returns_rows : (w : ReturnsWord) → Asking (returns_number w) (Kernel.ipSet ∷ [])
+returns_rows ReturnsWord.Exit = record { kernel = refl; takes = refl; asks = refl }
+returns_rows ReturnsWord.ToR = record { kernel = refl; takes = refl; asks = refl }
+returns_rows ReturnsWord.RFrom = record { kernel = refl; takes = refl; asks = refl }
+returns_rows ReturnsWord.RFetch = record { kernel = refl; takes = refl; asks = refl }
+returns_rows ReturnsWord.Index = record { kernel = refl; takes = refl; asks = refl }
+returns_rows ReturnsWord.OuterIndex = record { kernel = refl; takes = refl; asks = refl }
+returns_rows ReturnsWord.Leave = record { kernel = refl; takes = refl; asks = refl }
 
 pub inline_rows : (w : InlineWord) → Asking (inline_number w) (Kernel.ipSet ∷ [])
 inline_rows InlineWord.Literal = record { kernel = refl; takes = refl; asks = refl }

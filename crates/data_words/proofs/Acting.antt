@@ -17,12 +17,12 @@ use Rattle.data_words.specs.Tables.{left_by, of_one, of_two}
 abbrev pub Acts : ℕ → CellsWord → Type 0
 Acts n w = (again : ℕ → Machine → Asked After) (a : Argument) (m : Machine) → acts n again a m ≡ do_cells w m
 
-pub leaving-acts : (w : LeavingWord) → Acts (leaving_number w) (Kernel.leaves (λ m. left_by w (length m.stacks.cells) (here m)))
+pub leaving_acts : (w : LeavingWord) → Acts (leaving_number w) (Kernel.leaves (λ m. left_by w (length m.stacks.cells) (here m)))
 unfolding perform
-leaving-acts LeavingWord.Depth = λ again a m. refl
-leaving-acts LeavingWord.Base = λ again a m. refl
-leaving-acts LeavingWord.Pad = λ again a m. refl
-leaving-acts LeavingWord.Here = λ again a m. refl
+leaving_acts LeavingWord.Depth = λ again a m. refl
+leaving_acts LeavingWord.Base = λ again a m. refl
+leaving_acts LeavingWord.Pad = λ again a m. refl
+leaving_acts LeavingWord.Here = λ again a m. refl
 
 pub unary_acts : (w : UnaryWord) → Acts (unary_number w) (Kernel.one (λ x. of_one w x ∷ []))
 unfolding perform
@@ -92,13 +92,13 @@ pub question_dup_acts : Acts 6 question_dup_word
 unfolding perform
 question_dup_acts again a m = refl
 
-pub pick-acts : Acts 8 Kernel.pick
+pub pick_acts : Acts 8 Kernel.pick
 unfolding perform
-pick-acts again a m = refl
+pick_acts again a m = refl
 
-pub roll-acts : Acts 9 Kernel.roll
+pub roll_acts : Acts 9 Kernel.roll
 unfolding perform
-roll-acts again a m = refl
+roll_acts again a m = refl
 
 pub slash_acts : Acts 13 (Kernel.divide (λ d. d.quotient ∷ []))
 unfolding perform

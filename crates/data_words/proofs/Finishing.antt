@@ -26,9 +26,9 @@ use Rattle.data_words.specs.declared.words.UnaryWord.{UnaryWord}
 use Rattle.data_words.specs.declared.words.BinaryWord.{BinaryWord}
 use Rattle.data_words.specs.Numbers.{leaving_number, unary_number, binary_number}
 use Rattle.data_words.specs.Tables.{left_by, of_one, of_two}
-use Rattle.data_words.proofs.Acting.{Acts, leaving-acts, unary_acts, binary_acts, dup_acts, drop-acts, swap_acts, over_acts, rot_acts, question_dup_acts, pick-acts, roll-acts, slash_acts, modulo_acts, slash_mod_acts, times_slash_acts, dup_word, drop_word, swap_word, over_word, rot_word, question_dup_word}
-use Rattle.data_words.proofs.Moves.{one-done, two-done, three-done, replaced-done, pick_deep, pick-done, roll_deep, roll-done, unfit, divided, unfit_scaled, scaled, none-fits, some_fits, dup_leaves, over_leaves, question_dup_leaves, question_dup_stays, swap_list, rot_list}
-use Rattle.data_words.proofs.Ends.{cells-refused, cells-done, cells-replaced, cells_left}
+use Rattle.data_words.proofs.Acting.{Acts, leaving_acts, unary_acts, binary_acts, dup_acts, drop-acts, swap_acts, over_acts, rot_acts, question_dup_acts, pick_acts, roll_acts, slash_acts, modulo_acts, slash_mod_acts, times_slash_acts, dup_word, drop_word, swap_word, over_word, rot_word, question_dup_word}
+use Rattle.data_words.proofs.Moves.{one_done, two_done, three_done, replaced_done, pick_deep, pick_done, roll_deep, roll_done, unfit, divided, unfit_scaled, scaled, none_fits, some_fits, dup_leaves, over_leaves, question_dup_leaves, question_dup_stays, swap_list, rot_list}
+use Rattle.data_words.proofs.Ends.{cells_refused, cells_done, cells_replaced, cells_left}
 
 -- the depth, and the k-th cell from the top
 abbrev deep : Registers → ℕ
@@ -53,22 +53,22 @@ Replaced r c p x r' c' = Left r r' c' (deep r - p + 1) (x ∷ drop p (stack_of (
 module _ (r r' : Registers) (c c' : List ℕ) (l : length c ≡ 128) where
   pub unary_done : (w : UnaryWord) (a x : ℕ) → 1 ≤ deep r → a ≡ top r c 0 → x ≡ of_one w a → Replaced r c 1 x r' c' → OnCells (unary_number w) r c (Ok tt) r' c'
   unary_done w a x h p q e =
-      cells-replaced (unary_number w) (Kernel.one (λ y. of_one w y ∷ [])) (unary_acts w) r r' c c' 1 x l (omega arith) h
-      (λ i t k s. one-done (λ y. of_one w y ∷ []) (seen r i c t k s) (has_cells_lem r i c t k s l 1 h) ∙ ap (λ y. replaced 1 (y ∷ []) (seen r i c t k s)) (sym (q ∙ ap (of_one w) p)))
+      cells_replaced (unary_number w) (Kernel.one (λ y. of_one w y ∷ [])) (unary_acts w) r r' c c' 1 x l (omega arith) h
+      (λ i t k s. one_done (λ y. of_one w y ∷ []) (seen r i c t k s) (has_cells_lem r i c t k s l 1 h) ∙ ap (λ y. replaced 1 (y ∷ []) (seen r i c t k s)) (sym (q ∙ ap (of_one w) p)))
       e.shared e.seat e.stack
 
   pub binary_done : (w : BinaryWord) (a b x : ℕ) → 2 ≤ deep r → a ≡ top r c 1 → b ≡ top r c 0 → x ≡ of_two w a b → Replaced r c 2 x r' c' → OnCells (binary_number w) r c (Ok tt) r' c'
   binary_done w a b x h p q u e =
-      cells-replaced (binary_number w) (Kernel.two (λ y z. of_two w y z ∷ [])) (binary_acts w) r r' c c' 2 x l (omega arith) h
-      (λ i t k s. two-done (λ y z. of_two w y z ∷ []) (seen r i c t k s) (has_cells_lem r i c t k s l 2 h) ∙ ap (λ y. replaced 2 (y ∷ []) (seen r i c t k s)) (sym (u ∙ ap (λ y. of_two w y b) p ∙ ap (of_two w (top r c 1)) q)))
+      cells_replaced (binary_number w) (Kernel.two (λ y z. of_two w y z ∷ [])) (binary_acts w) r r' c c' 2 x l (omega arith) h
+      (λ i t k s. two_done (λ y z. of_two w y z ∷ []) (seen r i c t k s) (has_cells_lem r i c t k s l 2 h) ∙ ap (λ y. replaced 2 (y ∷ []) (seen r i c t k s)) (sym (u ∙ ap (λ y. of_two w y b) p ∙ ap (of_two w (top r c 1)) q)))
       e.shared e.seat e.stack
 
   left-same : (w : LeavingWord) (d h d' h' : ℕ) → d ≡ d' → h ≡ h' → left_by w d h ≡ left_by w d' h'
   left-same w d h d' h' p q = ap (λ y. left_by w y h) p ∙ ap (left_by w d') q
 
-  pub leaving-done : (w : LeavingWord) (x : ℕ) (o : Result (Unit {0}) Fault) → x ≡ left_by w (deep r) r.shared.ends.here → Leaves r c x o r' c' → OnCells (leaving_number w) r c o r' c'
-  leaving-done w x o p g =
-      cells_left (leaving_number w) (Kernel.leaves (λ m. left_by w (length m.stacks.cells) (32768 + length m.high))) (leaving-acts w) r r' c c' x o
+  pub leaving_done : (w : LeavingWord) (x : ℕ) (o : Result (Unit {0}) Fault) → x ≡ left_by w (deep r) r.shared.ends.here → Leaves r c x o r' c' → OnCells (leaving_number w) r c o r' c'
+  leaving_done w x o p g =
+      cells_left (leaving_number w) (Kernel.leaves (λ m. left_by w (length m.stacks.cells) (32768 + length m.high))) (leaving_acts w) r r' c c' x o
       (λ i t k s b.
       let e : length (high_of r.shared.ends.here i) ≡ r.shared.ends.here - 32768 = length_high r.shared.ends.here i (omega (arith, r.limit)) in
       let h : 32768 + length (high_of r.shared.ends.here i) ≡ r.shared.ends.here = omega (arith, r.space) in
@@ -94,42 +94,42 @@ module _ (r r' : Registers) (c c' : List ℕ) (l : length c ≡ 128) where
       (λ i t k s b. let d = depth_of r i c t k s l in question_dup_leaves (seen r i c t k s) (has_cells_lem r i c t k s l 1 h) (omega arith) z ∙ ap (λ y. replaced 0 (y ∷ []) (seen r i c t k s)) (sym p))
       g
 
-  pub drop-done : 1 ≤ deep r → Left r r' c' (deep r - 1) (drop 1 (stack_of (deep r) c)) → OnCells 2 r c (Ok tt) r' c'
-  drop-done h e =
-      cells-done 2 drop_word drop-acts r r' c c' _ _
-      (λ i t k s. one-done (λ a. []) (seen r i c t k s) (has_cells_lem r i c t k s l 1 h) ∙ replaced-done 1 [] (seen r i c t k s) (has_room_lem r i c t k s l 0 1 h (omega (arith, r.cells))))
+  pub drop_done : 1 ≤ deep r → Left r r' c' (deep r - 1) (drop 1 (stack_of (deep r) c)) → OnCells 2 r c (Ok tt) r' c'
+  drop_done h e =
+      cells_done 2 drop_word drop-acts r r' c c' _ _
+      (λ i t k s. one_done (λ a. []) (seen r i c t k s) (has_cells_lem r i c t k s l 1 h) ∙ replaced_done 1 [] (seen r i c t k s) (has_room_lem r i c t k s l 0 1 h (omega (arith, r.cells))))
       e.shared e.seat e.stack
 
   pub pick_too_deep : (a : ℕ) (e : Fault) → 1 ≤ deep r → a ≡ top r c 0 → deep r < a + 2 → e ≡ fault_of StackUnderflow (told_by r.seat) → OnCells 8 r c (Err e) r c
   pick_too_deep a e h p b q =
-      cells-refused 8 Kernel.pick pick-acts r c e StackUnderflow
+      cells_refused 8 Kernel.pick pick_acts r c e StackUnderflow
       (λ i t k s. pick_deep (seen r i c t k s) (has_cells_lem r i c t k s l 1 h) (lacks_cells r i c t k s l (top r c 0 + 2) (omega arith))) q
 
-  pub pick-found : (a x : ℕ) → 1 ≤ deep r → a ≡ top r c 0 → a + 2 ≤ deep r → x ≡ top r c (a + 1) → Replaced r c 1 x r' c' → OnCells 8 r c (Ok tt) r' c'
-  pick-found a x h p b q e =
-      cells-replaced 8 Kernel.pick pick-acts r r' c c' 1 x l (omega arith) h
-      (λ i t k s. pick-done (seen r i c t k s) (has_cells_lem r i c t k s l 1 h) (has_cells_lem r i c t k s l (top r c 0 + 2) (omega arith)) ∙ ap (λ y. replaced 1 (y ∷ []) (seen r i c t k s)) (sym (q ∙ ap (λ y. top r c (y + 1)) p)))
+  pub pick_found : (a x : ℕ) → 1 ≤ deep r → a ≡ top r c 0 → a + 2 ≤ deep r → x ≡ top r c (a + 1) → Replaced r c 1 x r' c' → OnCells 8 r c (Ok tt) r' c'
+  pick_found a x h p b q e =
+      cells_replaced 8 Kernel.pick pick_acts r r' c c' 1 x l (omega arith) h
+      (λ i t k s. pick_done (seen r i c t k s) (has_cells_lem r i c t k s l 1 h) (has_cells_lem r i c t k s l (top r c 0 + 2) (omega arith)) ∙ ap (λ y. replaced 1 (y ∷ []) (seen r i c t k s)) (sym (q ∙ ap (λ y. top r c (y + 1)) p)))
       e.shared e.seat e.stack
 
   pub roll_too_deep : (a : ℕ) (e : Fault) → 1 ≤ deep r → a ≡ top r c 0 → deep r < a + 2 → e ≡ fault_of StackUnderflow (told_by r.seat) → OnCells 9 r c (Err e) r c
   roll_too_deep a e h p b q =
-      cells-refused 9 Kernel.roll roll-acts r c e StackUnderflow
+      cells_refused 9 Kernel.roll roll_acts r c e StackUnderflow
       (λ i t k s. roll_deep (seen r i c t k s) (has_cells_lem r i c t k s l 1 h) (lacks_cells r i c t k s l (top r c 0 + 2) (omega arith))) q
 
   pub rolled_up : (a d : ℕ) → d ≡ deep r' → 1 ≤ deep r → a ≡ top r c 0 → a + 2 ≤ deep r → r'.shared ≡ r.shared → r'.seat ≡ with_cell_depth (deep r - 1) r.seat → stack_of (deep r - 1) c ≡ drop 1 (stack_of (deep r) c) → stack_of d c' ≡ rolled a (stack_of d c) 0 → OnCells 9 r c (Ok tt) r' c'
   rolled_up a d q h p b u v e f =
       let n : d ≡ deep r - 1 = q ∙ ap (λ (y : Seat). y.depths.cells) v in
       let g : stack_of (deep r - 1) c' ≡ rolled a (stack_of (deep r - 1) c) 0 = rw n at f in
-      cells-done 9 Kernel.roll roll-acts r r' c c' _ _
-      (λ i t k s. roll-done (seen r i c t k s) (has_cells_lem r i c t k s l 1 h) (has_cells_lem r i c t k s l (top r c 0 + 2) (omega arith)))
+      cells_done 9 Kernel.roll roll_acts r r' c c' _ _
+      (λ i t k s. roll_done (seen r i c t k s) (has_cells_lem r i c t k s l 1 h) (has_cells_lem r i c t k s l (top r c 0 + 2) (omega arith)))
       u v (g ∙ ap (λ y. rolled y (stack_of (deep r - 1) c) 0) p ∙ ap (λ y. rolled (top r c 0) y 0) e)
 
   -- a division that has its pair, or not
-  pub divided-done : (n : ℕ) (f : Divided → ℕ) → Acts n (Kernel.divide (λ d. f d ∷ [])) → (a b x : ℕ) (p : ℕ × ℕ) → 2 ≤ deep r → a ≡ top r c 1 → b ≡ top r c 0 → answered (floored (signed a) (signed b)) ≡ Some p → ((floored (signed a) (signed b)).fits ≡ true → x ≡ f (floored (signed a) (signed b))) → Replaced r c 2 x r' c' → OnCells n r c (Ok tt) r' c'
-  divided-done n f z a b x p h u v w y e =
+  pub divided_done : (n : ℕ) (f : Divided → ℕ) → Acts n (Kernel.divide (λ d. f d ∷ [])) → (a b x : ℕ) (p : ℕ × ℕ) → 2 ≤ deep r → a ≡ top r c 1 → b ≡ top r c 0 → answered (floored (signed a) (signed b)) ≡ Some p → ((floored (signed a) (signed b)).fits ≡ true → x ≡ f (floored (signed a) (signed b))) → Replaced r c 2 x r' c' → OnCells n r c (Ok tt) r' c'
+  divided_done n f z a b x p h u v w y e =
       let g = some_fits (floored (signed a) (signed b)) p w in
       let k : floored (signed (top r c 1)) (signed (top r c 0)) ≡ floored (signed a) (signed b) = ap (λ q. floored (signed q) (signed (top r c 0))) (sym u) ∙ ap (λ q. floored (signed a) (signed q)) (sym v) in
-      cells-replaced n (Kernel.divide (λ d. f d ∷ [])) z r r' c c' 2 x l (omega arith) h
+      cells_replaced n (Kernel.divide (λ d. f d ∷ [])) z r r' c c' 2 x l (omega arith) h
       (λ i t k' s. divided (seen r i c t k' s) (λ d. f d ∷ []) (has_cells_lem r i c t k' s l 2 h) (ap (λ (q : Divided). q.fits) k ∙ g.0) ∙ ap (λ q. replaced 2 (f q ∷ []) (seen r i c t k' s)) k ∙ ap (λ q. replaced 2 (q ∷ []) (seen r i c t k' s)) (sym (y g.0)))
       e.shared e.seat e.stack
 
@@ -137,15 +137,15 @@ module _ (r : Registers) (c : List ℕ) (l : length c ≡ 128) where
   pub swap_done : (c' : List ℕ) (d : ℕ) → d ≡ deep r → 2 ≤ deep r → stack_of d c' ≡ rolled 1 (stack_of d c) 0 → OnCells 3 r c (Ok tt) r c'
   swap_done c' d q h e =
       let e' : stack_of (deep r) c' ≡ rolled 1 (stack_of (deep r) c) 0 = rw q at e in
-      cells-done 3 swap_word swap_acts r r c c' (deep r) _
-      (λ i t k s. two-done (λ a b. a ∷ b ∷ []) (seen r i c t k s) (has_cells_lem r i c t k s l 2 h) ∙ replaced-done 2 (top r c 1 ∷ top r c 0 ∷ []) (seen r i c t k s) (has_room_lem r i c t k s l 2 2 h (omega (arith, r.cells))))
+      cells_done 3 swap_word swap_acts r r c c' (deep r) _
+      (λ i t k s. two_done (λ a b. a ∷ b ∷ []) (seen r i c t k s) (has_cells_lem r i c t k s l 2 h) ∙ replaced_done 2 (top r c 1 ∷ top r c 0 ∷ []) (seen r i c t k s) (has_room_lem r i c t k s l 2 2 h (omega (arith, r.cells))))
       refl refl (e' ∙ swap_list (stack_of (deep r) c) (omega (arith, length_stack (deep r) c (omega (arith, r.cells)))))
 
   pub rot_done : (c' : List ℕ) (d : ℕ) → d ≡ deep r → 3 ≤ deep r → stack_of d c' ≡ rolled 2 (stack_of d c) 0 → OnCells 5 r c (Ok tt) r c'
   rot_done c' d q h e =
       let e' : stack_of (deep r) c' ≡ rolled 2 (stack_of (deep r) c) 0 = rw q at e in
-      cells-done 5 rot_word rot_acts r r c c' (deep r) _
-      (λ i t k s. three-done (λ a b d. a ∷ d ∷ b ∷ []) (seen r i c t k s) (has_cells_lem r i c t k s l 3 h) ∙ replaced-done 3 (top r c 2 ∷ top r c 0 ∷ top r c 1 ∷ []) (seen r i c t k s) (has_room_lem r i c t k s l 3 3 h (omega (arith, r.cells))))
+      cells_done 5 rot_word rot_acts r r c c' (deep r) _
+      (λ i t k s. three_done (λ a b d. a ∷ d ∷ b ∷ []) (seen r i c t k s) (has_cells_lem r i c t k s l 3 h) ∙ replaced_done 3 (top r c 2 ∷ top r c 0 ∷ top r c 1 ∷ []) (seen r i c t k s) (has_room_lem r i c t k s l 3 3 h (omega (arith, r.cells))))
       refl refl (e' ∙ rot_list (stack_of (deep r) c) (omega (arith, length_stack (deep r) c (omega (arith, r.cells)))))
 
   pub question_dup_of_zero : (x : ℕ) → 1 ≤ deep r → x ≡ top r c 0 → x ≡ 0 → OnCells 6 r c (Ok tt) r c
@@ -155,18 +155,18 @@ module _ (r : Registers) (c : List ℕ) (l : length c ≡ 128) where
       let d = depth_of r i c t k s l in
       question_dup_acts again a (seen r i c t k s) ∙ question_dup_stays (seen r i c t k s) (has_cells_lem r i c t k s l 1 h) (omega arith) (has_room_lem r i c t k s l 1 1 h (omega (arith, r.cells))) z
 
-  pub divided-not : (n : ℕ) (f : Divided → List ℕ) → Acts n (Kernel.divide f) → (a b : ℕ) (e : Fault) → 2 ≤ deep r → a ≡ top r c 1 → b ≡ top r c 0 → answered (floored (signed a) (signed b)) ≡ None → e ≡ fault_of BadQuotient (told_by r.seat) → OnCells n r c (Err e) r c
-  divided-not n f z a b e h u v w q =
-      let g = none-fits (floored (signed a) (signed b)) w in
+  pub divided_not : (n : ℕ) (f : Divided → List ℕ) → Acts n (Kernel.divide f) → (a b : ℕ) (e : Fault) → 2 ≤ deep r → a ≡ top r c 1 → b ≡ top r c 0 → answered (floored (signed a) (signed b)) ≡ None → e ≡ fault_of BadQuotient (told_by r.seat) → OnCells n r c (Err e) r c
+  divided_not n f z a b e h u v w q =
+      let g = none_fits (floored (signed a) (signed b)) w in
       let k : floored (signed (top r c 1)) (signed (top r c 0)) ≡ floored (signed a) (signed b) = ap (λ y. floored (signed y) (signed (top r c 0))) (sym u) ∙ ap (λ y. floored (signed a) (signed y)) (sym v) in
-      cells-refused n (Kernel.divide f) z r c e BadQuotient
+      cells_refused n (Kernel.divide f) z r c e BadQuotient
       (λ i t k' s. unfit (seen r i c t k' s) f (has_cells_lem r i c t k' s l 2 h) (ap (λ (y : Divided). y.fits) k ∙ g)) q
 
   pub scaled_not : (a b d : ℕ) (e : Fault) → 3 ≤ deep r → a ≡ top r c 2 → b ≡ top r c 1 → d ≡ top r c 0 → answered (floored (product a b) (signed d)) ≡ None → e ≡ fault_of BadQuotient (told_by r.seat) → OnCells 16 r c (Err e) r c
   scaled_not a b d e h u v w z q =
-      let g = none-fits (floored (product a b) (signed d)) z in
+      let g = none_fits (floored (product a b) (signed d)) z in
       let k : floored (product (top r c 2) (top r c 1)) (signed (top r c 0)) ≡ floored (product a b) (signed d) = cc in
-      cells-refused 16 Kernel.scale times_slash_acts r c e BadQuotient
+      cells_refused 16 Kernel.scale times_slash_acts r c e BadQuotient
       (λ i t k' s. unfit_scaled (seen r i c t k' s) (has_cells_lem r i c t k' s l 3 h) (ap (λ (y : Divided). y.fits) k ∙ g)) q
 
 module _ (r r' r'' : Registers) (c c' c'' : List ℕ) (l : length c ≡ 128) where
@@ -174,7 +174,7 @@ module _ (r r' r'' : Registers) (c c' c'' : List ℕ) (l : length c ≡ 128) whe
   scaled_done a b d p h u v w z e =
       let g = some_fits (floored (product a b) (signed d)) p z in
       let k : floored (product (top r c 2) (top r c 1)) (signed (top r c 0)) ≡ floored (product a b) (signed d) = cc in
-      cells-replaced 16 Kernel.scale times_slash_acts r r' c c' 3 p.1 l (omega arith) h
+      cells_replaced 16 Kernel.scale times_slash_acts r r' c c' 3 p.1 l (omega arith) h
       (λ i t k' s. scaled (seen r i c t k' s) (has_cells_lem r i c t k' s l 3 h) (ap (λ (y : Divided). y.fits) k ∙ g.0) ∙ ap (λ (y : Divided). replaced 3 (y.quotient ∷ []) (seen r i c t k' s)) k ∙ ap (λ y. replaced 3 (y ∷ []) (seen r i c t k' s)) (sym g.2))
       e.shared e.seat e.stack
 
@@ -185,8 +185,8 @@ module _ (r r' r'' : Registers) (c c' c'' : List ℕ) (l : length c ≡ 128) whe
       let n : deep r' ≡ deep r - 2 + 1 = ap (λ (y : Seat). y.depths.cells) e.seat in
       let x : stack_of (deep r') c' ≡ p.0 ∷ drop 2 (stack_of (deep r) c) = ap (λ y. stack_of y c') n ∙ e.stack in
       let m = floored (signed (top r c 1)) (signed (top r c 0)) in
-      cells-done 15 (Kernel.divide (λ d. d.quotient ∷ d.remainder ∷ [])) slash_mod_acts r r'' c c'' (deep r' + 1) (m.quotient ∷ m.remainder ∷ drop 2 (stack_of (deep r) c))
+      cells_done 15 (Kernel.divide (λ d. d.quotient ∷ d.remainder ∷ [])) slash_mod_acts r r'' c c'' (deep r' + 1) (m.quotient ∷ m.remainder ∷ drop 2 (stack_of (deep r) c))
       (λ i t k' s. divided (seen r i c t k' s) (λ d. d.quotient ∷ d.remainder ∷ []) (has_cells_lem r i c t k' s l 2 h) (ap (λ (y : Divided). y.fits) k ∙ g.0)
-      ∙ replaced-done 2 (m.quotient ∷ m.remainder ∷ []) (seen r i c t k' s) (has_room_lem r i c t k' s l 2 2 h (omega (arith, r.cells))))
+      ∙ replaced_done 2 (m.quotient ∷ m.remainder ∷ []) (seen r i c t k' s) (has_room_lem r i c t k' s l 2 2 h (omega (arith, r.cells))))
       (z.shared ∙ e.shared) (z.seat ∙ ap (with_cell_depth (deep r' + 1)) e.seat)
       (z.stack ∙ ap (λ ys. p.1 ∷ ys) x ∙ ap (λ y. y ∷ p.0 ∷ drop 2 (stack_of (deep r) c)) (g.2 ∙ ap (λ (y : Divided). y.quotient) (sym k)) ∙ ap (λ y. m.quotient ∷ y ∷ drop 2 (stack_of (deep r) c)) (g.1 ∙ ap (λ (y : Divided). y.remainder) (sym k)))

@@ -34,30 +34,30 @@ short Kernel.pick m b h = rw h
 short Kernel.roll m b h = rw h
 
 -- enough cells, and room for what is left
-pub replaced-done : (n : ℕ) (xs : List ℕ) (m : Machine) → has_room (length xs) (popped n m) ≡ true → replaced n xs m ≡ quietly (with_cells (xs ++ drop n m.stacks.cells) m)
-replaced-done n xs m h = rw h
+pub replaced_done : (n : ℕ) (xs : List ℕ) (m : Machine) → has_room (length xs) (popped n m) ≡ true → replaced n xs m ≡ quietly (with_cells (xs ++ drop n m.stacks.cells) m)
+replaced_done n xs m h = rw h
 
-pub one-done : (f : ℕ → List ℕ) (m : Machine) → has_cells 1 m ≡ true → do_cells (Kernel.one f) m ≡ replaced 1 (f (nth 0 m)) m
-one-done f m h = rw h
+pub one_done : (f : ℕ → List ℕ) (m : Machine) → has_cells 1 m ≡ true → do_cells (Kernel.one f) m ≡ replaced 1 (f (nth 0 m)) m
+one_done f m h = rw h
 
-pub two-done : (f : ℕ → ℕ → List ℕ) (m : Machine) → has_cells 2 m ≡ true → do_cells (Kernel.two f) m ≡ replaced 2 (f (nth 1 m) (nth 0 m)) m
-two-done f m h = rw h
+pub two_done : (f : ℕ → ℕ → List ℕ) (m : Machine) → has_cells 2 m ≡ true → do_cells (Kernel.two f) m ≡ replaced 2 (f (nth 1 m) (nth 0 m)) m
+two_done f m h = rw h
 
-pub three-done : (f : ℕ → ℕ → ℕ → List ℕ) (m : Machine) → has_cells 3 m ≡ true → do_cells (Kernel.three f) m ≡ replaced 3 (f (nth 2 m) (nth 1 m) (nth 0 m)) m
-three-done f m h = rw h
+pub three_done : (f : ℕ → ℕ → ℕ → List ℕ) (m : Machine) → has_cells 3 m ≡ true → do_cells (Kernel.three f) m ≡ replaced 3 (f (nth 2 m) (nth 1 m) (nth 0 m)) m
+three_done f m h = rw h
 
 -- PICK and ROLL ask for the cells that they reach over
 pub pick_deep : (m : Machine) → has_cells 1 m ≡ true → has_cells (nth 0 m + 2) m ≡ false → do_cells Kernel.pick m ≡ refused StackUnderflow m
 pick_deep m h k = rw (h, k)
 
-pub pick-done : (m : Machine) → has_cells 1 m ≡ true → has_cells (nth 0 m + 2) m ≡ true → do_cells Kernel.pick m ≡ replaced 1 (nth (nth 0 m + 1) m ∷ []) m
-pick-done m h k = rw (h, k)
+pub pick_done : (m : Machine) → has_cells 1 m ≡ true → has_cells (nth 0 m + 2) m ≡ true → do_cells Kernel.pick m ≡ replaced 1 (nth (nth 0 m + 1) m ∷ []) m
+pick_done m h k = rw (h, k)
 
 pub roll_deep : (m : Machine) → has_cells 1 m ≡ true → has_cells (nth 0 m + 2) m ≡ false → do_cells Kernel.roll m ≡ refused StackUnderflow m
 roll_deep m h k = rw (h, k)
 
-pub roll-done : (m : Machine) → has_cells 1 m ≡ true → has_cells (nth 0 m + 2) m ≡ true → do_cells Kernel.roll m ≡ quietly (with_cells (rolled (nth 0 m) (drop 1 m.stacks.cells) 0) m)
-roll-done m h k = rw (h, k)
+pub roll_done : (m : Machine) → has_cells 1 m ≡ true → has_cells (nth 0 m + 2) m ≡ true → do_cells Kernel.roll m ≡ quietly (with_cells (rolled (nth 0 m) (drop 1 m.stacks.cells) 0) m)
+roll_done m h k = rw (h, k)
 
 -- a division
 pub unfit : (m : Machine) (f : Divided → List ℕ) → has_cells 2 m ≡ true → (floored (signed (nth 1 m)) (signed (nth 0 m))).fits ≡ false → do_cells (Kernel.divide f) m ≡ refused BadQuotient m
@@ -73,8 +73,8 @@ pub scaled : (m : Machine) → has_cells 3 m ≡ true → (floored (product (nth
 scaled m h k = rw (h, k)
 
 -- what an answer tells of the division
-pub none-fits : (d : Divided) → answered d ≡ None → d.fits ≡ false
-none-fits d h = at d.fits refl
+pub none_fits : (d : Divided) → answered d ≡ None → d.fits ≡ false
+none_fits d h = at d.fits refl
   where
     at : (b : Bool) → d.fits ≡ b → d.fits ≡ false
     at true p = let z : ◌≡◌ {A = Option (ℕ × ℕ)} (Some (d.remainder, d.quotient)) None = rw p at h in let y : ◌≡◌ {A = ℕ} 0 1 = cc in absurd (omega arith)
@@ -122,10 +122,10 @@ top_list (x ∷ s) h = refl
 
 -- DUP, OVER and ?DUP leave one cell more
 pub dup_leaves : (m : Machine) → has_cells 1 m ≡ true → 1 ≤ length m.stacks.cells → do_cells dup_word m ≡ replaced 0 (nth 0 m ∷ []) m
-dup_leaves m h l = one-done (λ a. a ∷ a ∷ []) m h ∙ (let q = dup_list m.stacks.cells l in same_room 1 (nth 0 m ∷ nth 0 m ∷ []) (nth 0 m ∷ []) m q.0 q.1)
+dup_leaves m h l = one_done (λ a. a ∷ a ∷ []) m h ∙ (let q = dup_list m.stacks.cells l in same_room 1 (nth 0 m ∷ nth 0 m ∷ []) (nth 0 m ∷ []) m q.0 q.1)
 
 pub over_leaves : (m : Machine) → has_cells 2 m ≡ true → 2 ≤ length m.stacks.cells → do_cells over_word m ≡ replaced 0 (nth 1 m ∷ []) m
-over_leaves m h l = two-done (λ a b. a ∷ b ∷ a ∷ []) m h ∙ (let q = over_list m.stacks.cells l in same_room 2 (nth 1 m ∷ nth 0 m ∷ nth 1 m ∷ []) (nth 1 m ∷ []) m q.0 q.1)
+over_leaves m h l = two_done (λ a b. a ∷ b ∷ a ∷ []) m h ∙ (let q = over_list m.stacks.cells l in same_room 2 (nth 1 m ∷ nth 0 m ∷ nth 1 m ∷ []) (nth 1 m ∷ []) m q.0 q.1)
 
 pub question_dup_leaves : (m : Machine) → has_cells 1 m ≡ true → 1 ≤ length m.stacks.cells → eqb (nth 0 m) 0 ≡ false → do_cells question_dup_word m ≡ replaced 0 (nth 0 m ∷ []) m
 question_dup_leaves m h l z = rw (h, z) (let q = dup_list m.stacks.cells l in same_room 1 (nth 0 m ∷ nth 0 m ∷ []) (nth 0 m ∷ []) m q.0 q.1)

@@ -28,9 +28,9 @@ unfolding low_of
 low_tails d e i j p =
     sym (drop_at (zeros 256) (drop 256 (take d i)) 256 refl) ∙ ap (drop 256) p ∙ drop_at (zeros 256) (drop 256 (take e j)) 256 refl
 
-pub low-ends : (d e : ℕ) (i j : List ℕ) → 256 ≤ d → d ≤ length i → 256 ≤ e → e ≤ length j → low_of d i ≡ low_of e j → d ≡ e
+pub low_ends : (d e : ℕ) (i j : List ℕ) → 256 ≤ d → d ≤ length i → 256 ≤ e → e ≤ length j → low_of d i ≡ low_of e j → d ≡ e
 unfolding low_of
-low-ends d e i j d₀ d₁ e₀ e₁ p =
+low_ends d e i j d₀ d₁ e₀ e₁ p =
     let q : length (drop 256 (take d i)) ≡ length (drop 256 (take e j)) = ap length (low_tails d e i j p) in
     omega (arith, simp (length-drop, length-take) at q)
 
@@ -59,15 +59,15 @@ unfolding high_of
 high_same h i j h₀ hi hj same =
     window_same 0 32768 (h - 32768) i j (omega arith) (omega arith) (λ k l u. same k l (omega arith))
 
-pub high-ends : (g h : ℕ) (i j : List ℕ) → 32768 ≤ g → g ≤ length i → 32768 ≤ h → h ≤ length j → high_of g i ≡ high_of h j → g ≡ h
+pub high_ends : (g h : ℕ) (i j : List ℕ) → 32768 ≤ g → g ≤ length i → 32768 ≤ h → h ≤ length j → high_of g i ≡ high_of h j → g ≡ h
 unfolding high_of
-high-ends g h i j g₀ g₁ h₀ h₁ p =
+high_ends g h i j g₀ g₁ h₀ h₁ p =
     let q : length (high_of g i) ≡ length (high_of h j) = ap length p in
     omega (arith, simp (length-take, length-drop) at q)
 
-pub high-reads : (g h : ℕ) (i j : List ℕ) → high_of g i ≡ high_of h j → g ≡ h → (a : ℕ) → 32768 ≤ a → a < g → get_or i a 0 ≡ get_or j a 0
+pub high_reads : (g h : ℕ) (i j : List ℕ) → high_of g i ≡ high_of h j → g ≡ h → (a : ℕ) → 32768 ≤ a → a < g → get_or i a 0 ≡ get_or j a 0
 unfolding high_of
-high-reads g h i j p q a h₀ h₁ =
+high_reads g h i j p q a h₀ h₁ =
     let p' : high_of g i ≡ high_of g j = p ∙ sym (ap (λ z. high_of z j) q) in
     let n : 32768 + (a - 32768) ≡ a = omega arith in
     subst (λ z. get_or i z 0 ≡ get_or j z 0) n (window_reads 0 32768 (g - 32768) i j p' (a - 32768) (omega arith))
@@ -101,13 +101,13 @@ kept_high s a h₀ h = grind (arith, nat_tests)
 pub dp_bottom : (r : Registers) → 256 ≤ r.shared.ends.dp
 dp_bottom r = omega (arith, r.bottom, settled_in r.shared r.open)
 
-high-length : (h : ℕ) (image : List ℕ) → 32768 ≤ h → h ≤ length image → 32768 + length (high_of h image) ≡ h
+high_length : (h : ℕ) (image : List ℕ) → 32768 ≤ h → h ≤ length image → 32768 + length (high_of h image) ≡ h
 unfolding high_of
-high-length h image h₀ h₁ = simp (length-take, length-drop) (omega arith)
+high_length h image h₀ h₁ = simp (length-take, length-drop) (omega arith)
 
-pub view-dictionary : ViewDictionary
-view-dictionary r l s w =
-    let e = high-length r.shared.ends.here l.image (omega (arith, r.space)) (omega (arith, r.limit, w.image)) in
+pub view_dictionary : ViewDictionary
+view_dictionary r l s w =
+    let e = high_length r.shared.ends.here l.image (omega (arith, r.space)) (omega (arith, r.limit, w.image)) in
     ap (λ h. dict_in (record { dp = r.shared.ends.dp; here = h }) r.shared.names r.seat.order l.image) e
 
 module _ (r : Registers) (l : Lent) (r' : Registers) (l' : Lent) (w : Whole l) (w' : Whole l') where
@@ -174,11 +174,11 @@ module _ (r : Registers) (l : Lent) (r' : Registers) (l' : Lent) (w : Whole l) (
 
     dps : r.shared.ends.dp ≡ r'.shared.ends.dp
     dps =
-        low-ends r.shared.ends.dp r'.shared.ends.dp l.image l'.image (dp_bottom r) (omega (arith, r.top, w.image)) (dp_bottom r') (omega (arith, r'.top, w'.image)) lows
+        low_ends r.shared.ends.dp r'.shared.ends.dp l.image l'.image (dp_bottom r) (omega (arith, r.top, w.image)) (dp_bottom r') (omega (arith, r'.top, w'.image)) lows
 
     heres : r.shared.ends.here ≡ r'.shared.ends.here
     heres =
-        high-ends r.shared.ends.here r'.shared.ends.here l.image l'.image (omega (arith, r.space)) (omega (arith, r.limit, w.image)) (omega (arith, r'.space)) (omega (arith, r'.limit, w'.image)) highs
+        high_ends r.shared.ends.here r'.shared.ends.here l.image l'.image (omega (arith, r.space)) (omega (arith, r.limit, w.image)) (omega (arith, r'.space)) (omega (arith, r'.limit, w'.image)) highs
 
     depth-cells : r.seat.depths.cells ≡ r'.seat.depths.cells
     depth-cells =
@@ -200,7 +200,7 @@ module _ (r : Registers) (l : Lent) (r' : Registers) (l' : Lent) (w : Whole l) (
     byte-same a f =
         let n = not_free r.shared a f in
         elim n.0 [
-          | inr above ↦ high-reads r.shared.ends.here r'.shared.ends.here l.image l'.image highs heres a above n.1
+          | inr above ↦ high_reads r.shared.ends.here r'.shared.ends.here l.image l'.image highs heres a above n.1
           | inl below ↦
               elim (cases_lt a 256) [
                 | inr h ↦ low_reads r.shared.ends.dp r'.shared.ends.dp l.image l'.image lows dps a h below

@@ -39,16 +39,16 @@ word_in : (xs : List ℕ) → word_length xs ≤ length xs
 word_in [] = omega arith
 word_in (b ∷ bs) = elim (first b bs) [ inl e ↦ omega (arith, e.2) | inr e ↦ omega (arith, e.2, word_in bs) ]
 
-word-above : (xs : List ℕ) (k : ℕ) → k < word_length xs → 32 < get_or xs k 0
-word-above [] k h = omega arith
-word-above (b ∷ bs) zero h = elim (first b bs) [ inl e ↦ absurd (omega (arith, e.2)) | inr e ↦ e.0 ]
-word-above (b ∷ bs) (suc k) h =
-    elim (first b bs) [ inl e ↦ absurd (omega (arith, e.2)) | inr e ↦ word-above bs k (omega (arith, e.2)) ]
+word_above : (xs : List ℕ) (k : ℕ) → k < word_length xs → 32 < get_or xs k 0
+word_above [] k h = omega arith
+word_above (b ∷ bs) zero h = elim (first b bs) [ inl e ↦ absurd (omega (arith, e.2)) | inr e ↦ e.0 ]
+word_above (b ∷ bs) (suc k) h =
+    elim (first b bs) [ inl e ↦ absurd (omega (arith, e.2)) | inr e ↦ word_above bs k (omega (arith, e.2)) ]
 
-word-ends : (xs : List ℕ) → word_length xs < length xs → get_or xs (word_length xs) 0 ≤ 32
-word-ends [] h = omega arith
-word-ends (b ∷ bs) h =
-    elim (first b bs) [ inl e ↦ rw e.2 e.0 | inr e ↦ rw e.2 (word-ends bs (omega (arith, e.2))) ]
+word_ends : (xs : List ℕ) → word_length xs < length xs → get_or xs (word_length xs) 0 ≤ 32
+word_ends [] h = omega arith
+word_ends (b ∷ bs) h =
+    elim (first b bs) [ inl e ↦ rw e.2 e.0 | inr e ↦ rw e.2 (word_ends bs (omega (arith, e.2))) ]
 
 -- where no byte above 32 comes first, none comes at all or a separator does
 word_none : (xs : List ℕ) → 0 < length xs → 32 < get_or xs 0 0 → 0 < word_length xs
@@ -89,16 +89,16 @@ module _ (text : List ℕ) (from : ℕ) where
   first_run = record {
     onward = omega arith;
     skipped = λ k h l. subst (λ b. b ≤ 32) (rest_at k h) (gap_skips rest (k - from) (omega arith));
-    above = λ k h l. subst (λ b. 32 < b) (word_at k h) (word-above word (k - (from + gap rest)) (omega arith));
+    above = λ k h l. subst (λ b. 32 < b) (word_at k h) (word_above word (k - (from + gap rest)) (omega arith));
     inside = λ h. omega (arith, word_in word, length-word);
-    ended = λ h. subst (λ b. b ≤ 32) (word_at (from + gap rest + word_length word) (omega arith)) (subst (λ z. get_or word z 0 ≤ 32) (omega arith) (word-ends word (omega (arith, length-word))));
+    ended = λ h. subst (λ b. b ≤ 32) (word_at (from + gap rest + word_length word) (omega arith)) (subst (λ z. get_or word z 0 ≤ 32) (omega arith) (word_ends word (omega (arith, length-word))));
     none = λ e k h l. subst (λ b. b ≤ 32) (rest_at k h) (gap_skips rest (k - from) (omega (arith, no_word e, length-drop from text)));
     behind_one = λ h. omega arith;
     at_end = λ h. omega arith;
   }
 
-pub word-taken : WordTaken
-word-taken m = record {
+pub word_taken : WordTaken
+word_taken m = record {
   run = first_run (text_of m) (offset m);
   bytes = ap (take (word_length (word (text_of m) (offset m)))) (drop-drop (gap (rest (text_of m) (offset m))) (offset m) (text_of m));
   others = refl;

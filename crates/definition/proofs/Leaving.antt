@@ -27,17 +27,17 @@ low_front e d image h₀ h₁ =
     let n : 256 + (e - 256) ≡ e = omega arith in
     subst (λ z. take z (low_of d image) ≡ low_of z image) n (low_add (e - 256) d image (omega arith))
 
-low-left : (b : Bool) (d o : ℕ) (image : List ℕ) → 256 ≤ cond b d (o - 2) → cond b d (o - 2) ≤ d → low_of (cond b d (o - 2)) image ≡ cond b (low_of d image) (take (o - 2) (low_of d image))
-low-left true d o image h₀ h₁ = refl
-low-left false d o image h₀ h₁ = sym (low_front (o - 2) d image h₀ h₁)
+low_left : (b : Bool) (d o : ℕ) (image : List ℕ) → 256 ≤ cond b d (o - 2) → cond b d (o - 2) ≤ d → low_of (cond b d (o - 2)) image ≡ cond b (low_of d image) (take (o - 2) (low_of d image))
+low_left true d o image h₀ h₁ = refl
+low_left false d o image h₀ h₁ = sym (low_front (o - 2) d image h₀ h₁)
 
 abbrev left_shared : ℕ → Shared → Shared
 left_shared e s = record { ends = record { dp = e; here = s.ends.here }; names = record { newest = s.names.newest; voclink = s.names.voclink; opened = 0 }; buffer = s.buffer }
 
-pub cleared-view : (s : Shared) (t : Seat) (e : ℕ) (r : Seat) → e ≡ settled s → r ≡ resting t.order t.source.word → 256 ≤ settled s → settled s ≤ s.ends.dp → (l : Lent) (m : Meaning) → view_of (left_shared e s) r l m ≡ cleared (view_of s t l m)
+pub cleared_view : (s : Shared) (t : Seat) (e : ℕ) (r : Seat) → e ≡ settled s → r ≡ resting t.order t.source.word → 256 ≤ settled s → settled s ≤ s.ends.dp → (l : Lent) (m : Meaning) → view_of (left_shared e s) r l m ≡ cleared (view_of s t l m)
 unfolding stack_of
-cleared-view s t e r p o h₀ h₁ l m =
-    let q = ap (λ z. low_of z l.image) p ∙ low-left (eqb s.names.opened 0) s.ends.dp s.names.opened l.image h₀ h₁ in
+cleared_view s t e r p o h₀ h₁ l m =
+    let q = ap (λ z. low_of z l.image) p ∙ low_left (eqb s.names.opened 0) s.ends.dp s.names.opened l.image h₀ h₁ in
     let rest = resting t.order t.source.word in
     ap (λ z. view_of (left_shared e s) z l m) o ∙ (λ i. record {
       low = q i;

@@ -77,8 +77,8 @@ ending_shifted budget space n k t u m r e h (fault why m' p q) =
 abbrev Runs : ℕ → Type 0
 Runs budget = (space : ℕ) (m : Machine) → Ran budget space m (run_from budget space [] 0 m)
 
-ran-went : (budget space : ℕ) (a : After) (m : Machine) (b : Bool) → leb (length a.typed) space ≡ b → step m ≡ Step.went a → Runs budget → Ran (suc budget) space m (fitting budget space a [] 0 m b)
-ran-went budget space a m false f e ih = record {
+ran_went : (budget space : ℕ) (a : After) (m : Machine) (b : Bool) → leb (length a.typed) space ≡ b → step m ≡ Step.went a → Runs budget → Ran (suc budget) space m (fitting budget space a [] 0 m b)
+ran_went budget space a m false f e ih = record {
   taken = 0;
   typed = [];
   last = m;
@@ -86,7 +86,7 @@ ran-went budget space a m false f e ih = record {
   fits = omega arith;
   ending = full a (omega arith) e (omega (arith, leb-false (length a.typed) space f));
 }
-ran-went budget space a m true f e ih =
+ran_went budget space a m true f e ih =
     let left = space - length a.typed in
     let R = ih left a.machine in
     let h : length a.typed ≤ space = leb-true (length a.typed) space f in
@@ -107,15 +107,15 @@ ran_turn budget space m (Step.finished m') e ih =
     record { taken = 0; typed = []; last = m; steps = (refl, refl); fits = omega arith; ending = done m' (omega arith) e }
 ran_turn budget space m (Step.failed why m') e ih =
     record { taken = 0; typed = []; last = m; steps = (refl, refl); fits = omega arith; ending = fault why m' (omega arith) e }
-ran_turn budget space m (Step.went a) e ih = ran-went budget space a m (leb (length a.typed) space) refl e ih
+ran_turn budget space m (Step.went a) e ih = ran_went budget space a m (leb (length a.typed) space) refl e ih
 
 ran : (budget : ℕ) → Runs budget
 ran zero space m = record { taken = 0; typed = []; last = m; steps = (refl, refl); fits = omega arith; ending = spent refl }
 ran (suc budget) space m = ran_turn budget space m (step m) refl (ran budget)
 
-pub run-outcome : RunOutcome
+pub run_outcome : RunOutcome
 unfolding run
-run-outcome budget space m = ran budget space m
+run_outcome budget space m = ran budget space m
 
 -- a run cut in two
 
@@ -146,12 +146,12 @@ from_start b space m =
     let z : space ≡ space - 0 = omega arith in
     shift b space [] 0 m ∙ ap (λ k. shifted [] 0 (run_from b k [] 0 m)) z
 
-full-stays : (b space : ℕ) (a : After) (m : Machine) → step m ≡ Step.went a → leb (length a.typed) space ≡ false → run_from b space [] 0 m ≡ report stopped [] 0 m
-full-stays zero space a m e f = refl
-full-stays (suc b) space a m e f = ap (turn b space [] 0 m) e ∙ ap (fitting b space a [] 0 m) f
+full_stays : (b space : ℕ) (a : After) (m : Machine) → step m ≡ Step.went a → leb (length a.typed) space ≡ false → run_from b space [] 0 m ≡ report stopped [] 0 m
+full_stays zero space a m e f = refl
+full_stays (suc b) space a m e f = ap (turn b space [] 0 m) e ∙ ap (fitting b space a [] 0 m) f
 
 cut_went : (a b space : ℕ) (c : After) (m : Machine) (f : Bool) → leb (length c.typed) space ≡ f → step m ≡ Step.went c → Cut a → fitting (a + b) space c [] 0 m f ≡ gone b space (fitting a space c [] 0 m f)
-cut_went a b space c m false f e ih = sym (full-stays b space c m e f) ∙ from_start b space m
+cut_went a b space c m false f e ih = sym (full_stays b space c m e f) ∙ from_start b space m
 cut_went a b space c m true f e ih =
     let left = space - length c.typed in
     let R = run_from a left [] 0 c.machine in
@@ -177,7 +177,7 @@ run_cut a b space m = cut a b space m
 
 only_none : (budget space : ℕ) (m : Machine) (r : Report) → Ending budget space 0 [] m r → r ≡ run_from budget space [] 0 m
 only_none budget space m r (spent p) = ap (λ b. run_from b space [] 0 m) p
-only_none budget space m r (full a p q h) = sym (full-stays budget space a m q (grind (arith, nat_tests)))
+only_none budget space m r (full a p q h) = sym (full_stays budget space a m q (grind (arith, nat_tests)))
 only_none zero space m r (done m' p q) = absurd (omega arith)
 only_none (suc b) space m r (done m' p q) = sym (ap (turn b space [] 0 m) q)
 only_none zero space m r (fault why m' p q) = absurd (omega arith)

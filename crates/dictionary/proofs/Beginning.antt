@@ -14,25 +14,25 @@ use Rattle.image.specs.Views.{low_of}
 use Rattle.dictionary.proofs.Changing.{low_cut}
 use Rattle.dictionary.specs.Begins.{headed_by, head_joined}
 use Rattle.dictionary.specs.Lent.{with_room, Did}
-use Rattle.dictionary.proofs.Growing.{appended-two}
+use Rattle.dictionary.proofs.Growing.{appended_two}
 
 -- an entry up to its code cell, part by part
 pub header_made : (D A B C E F : Dict) (view flags : ℕ) (name : List ℕ) (code link count : ℕ)
     → A ≡ appended (cell view) D → B ≡ appended (cell link) A → C ≡ appended (count ∷ []) B → E ≡ appended name C → F ≡ appended (cell code) E
     → link ≡ cell_at D.low (thread_of (at name 0) D) → count ≡ count_byte flags name → F ≡ headed_by view flags name code D
 header_made D A B C E F view flags name code link count a b c e f p q =
-    appended-two D A F (cell view) _ _ a
-    (appended-two A B F (cell link) _ _ b
-    (appended-two B C F (count ∷ []) _ _ c
-    (appended-two C E F name (cell code) _ e f refl) refl) refl)
+    appended_two D A F (cell view) _ _ a
+    (appended_two A B F (cell link) _ _ b
+    (appended_two B C F (count ∷ []) _ _ c
+    (appended_two C E F name (cell code) _ e f refl) refl) refl)
     (ap (λ l. cell view ++ (cell l ++ (count ∷ (name ++ cell code)))) p ∙ ap (λ n. cell view ++ (cell (cell_at D.low (thread_of (at name 0) D)) ++ (n ∷ (name ++ cell code)))) q)
 
 -- and with its parameter cells
-pub begun-made : (D G H K : Dict) (view flags : ℕ) (name : List ℕ) (code : ℕ) (rest : List ℕ)
+pub begun_made : (D G H K : Dict) (view flags : ℕ) (name : List ℕ) (code : ℕ) (rest : List ℕ)
     → G ≡ headed_by view flags name code D → H ≡ appended (cell D.here) G → K ≡ appended rest H → K ≡ begun view flags name code rest D
 unfolding entry_bytes cell
-begun-made D G H K view flags name code rest g h k =
-    appended-two D G K _ (cell D.here ++ rest) _ g (appended-two G H K (cell D.here) rest _ h k refl) (whole (cell_at D.low (thread_of (at name 0) D)))
+begun_made D G H K view flags name code rest g h k =
+    appended_two D G K _ (cell D.here ++ rest) _ g (appended_two G H K (cell D.here) rest _ h k refl) (whole (cell_at D.low (thread_of (at name 0) D)))
   where
     whole : (link : ℕ) → (cell view ++ (cell link ++ (count_byte flags name ∷ (name ++ cell code)))) ++ (cell D.here ++ rest) ≡ entry_bytes view link (count_byte flags name) name code D.here rest
     whole link = ap (λ (s : List ℕ). cell view ++ (cell link ++ (count_byte flags name ∷ s))) (append_assoc name (cell code) (cell D.here ++ rest))
@@ -53,17 +53,17 @@ room_err n m told D X Y f q h = go (leb (length D.low + n) 32768) refl h
     go true e k = absurd (false≢true (cc))
     go false e k = ap (λ c. cond c (Ok Y) (Err (fault_of DictionaryFull told))) (ap (λ i. leb (length D.low + i) 32768) (sym q) ∙ e) ∙ k
 
-pub still-refused : (n m : ℕ) (told : Place) (D X Y E : Dict) (r : Result (Unit {0}) Fault) (y f : Fault) → n ≡ m → (with_room n told D X ≡ Err f) × (E ≡ D) → r ≡ Err y → y ≡ f → Did (with_room m told D Y) D r E
-still-refused n m told D X Y E r y f q h e p = rw (e, p) (room_err n m told D X Y f q h.0, h.1)
+pub still_refused : (n m : ℕ) (told : Place) (D X Y E : Dict) (r : Result (Unit {0}) Fault) (y f : Fault) → n ≡ m → (with_room n told D X ≡ Err f) × (E ≡ D) → r ≡ Err y → y ≡ f → Did (with_room m told D Y) D r E
+still_refused n m told D X Y E r y f q h e p = rw (e, p) (room_err n m told D X Y f q h.0, h.1)
 
 -- JOINING
-pub defined-made : (D G E : Dict) (view flags : ℕ) (name : List ℕ) (code : ℕ) (rest : List ℕ) (thread e : ℕ)
+pub defined_made : (D G E : Dict) (view flags : ℕ) (name : List ℕ) (code : ℕ) (rest : List ℕ) (thread e : ℕ)
     → G ≡ begun view flags name code rest D → E ≡ head_joined thread e G → thread ≡ at name 0 % 4 → e ≡ next_entry D → E ≡ defined view flags name code rest D
-defined-made D G E view flags name code rest thread e g h t n = cc
+defined_made D G E view flags name code rest thread e g h t n = cc
 
 -- the open entry of `:`
-pub colon-made : (D G : Dict) (view : ℕ) (name : List ℕ) (e : ℕ) → G ≡ begun view 0 name 201 [] D → e ≡ next_entry D → with_opened e (with_context G.current G) ≡ colon_begun view name D
-colon-made D G view name e g n = cc
+pub colon_made : (D G : Dict) (view : ℕ) (name : List ℕ) (e : ℕ) → G ≡ begun view 0 name 201 [] D → e ≡ next_entry D → with_opened e (with_context G.current G) ≡ colon_begun view name D
+colon_made D G view name e g n = cc
 
 pub kept_open : (end dp e : ℕ) → e ≡ dp + 2 → kept_end end e ≡ dp
 kept_open end dp e h = let q : e - 2 ≡ dp = omega arith in cond-false (eqb e 0) _ _ (ne_eqb e 0 (λ z. omega arith)) ∙ q
@@ -73,9 +73,9 @@ length-set-cell : (low : List ℕ) (a x : ℕ) → length (set_cell low a x) ≡
 unfolding set_cell
 length-set-cell low a x = length-set (set low a (x % 256)) (a + 1) (x / 256) ∙ length-set low a (x % 256)
 
-pub vocabulary-made : (D E : Dict) (view : ℕ) (name : List ℕ) (k m : ℕ) → E ≡ defined view 0 name 204 (zeros 8 ++ cell D.voc_link) D → length E.low ≡ k → m ≡ k - 2
+pub vocabulary_made : (D E : Dict) (view : ℕ) (name : List ℕ) (k m : ℕ) → E ≡ defined view 0 name 204 (zeros 8 ++ cell D.voc_link) D → length E.low ≡ k → m ≡ k - 2
     → with_voc_link m E ≡ vocabulary_defined view name D
-vocabulary-made D E view name k m e l q =
+vocabulary_made D E view name k m e l q =
     let B = begun view 0 name 204 (zeros 8 ++ cell D.voc_link) D in
     let n : length E.low ≡ length B.low = ap (λ (d : Dict). length d.low) e ∙ length-set-cell B.low (thread_of (at name 0) B) (next_entry D) in
     ap (λ i. with_voc_link i E) q ∙ ap (λ i. with_voc_link (i - 2) E) (sym l ∙ n) ∙ ap (λ d. with_voc_link (length B.low - 2) d) e

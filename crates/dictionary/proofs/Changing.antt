@@ -5,8 +5,8 @@ use lib.Seq.{take-append-add}
 use Rattle.image.specs.Cells.{cell, set_cell, zeros}
 use Rattle.image.specs.Writes.{overwritten}
 use Rattle.image.specs.Views.{low_of, CarriedByViews}
-use Rattle.image.proofs.Laws.{length-low, low-within}
-use Rattle.image.proofs.Overwriting.{overwritten-none, overwritten_more, overwritten-cell}
+use Rattle.image.proofs.Laws.{length_low, low_within}
+use Rattle.image.proofs.Overwriting.{overwritten_none, overwritten_more, overwritten_cell}
 use Rattle.dictionary.specs.Dict.{Dict, with_low}
 
 pub length-cell : (x : ℕ) → length (cell x) ≡ 2
@@ -20,17 +20,17 @@ low_only D low new e = ap (λ l. with_low l D) e
 pub cell_in : (dp : ℕ) (old image : List ℕ) (a x : ℕ) → 256 ≤ a → a + 1 < dp → dp ≤ length old → CarriedByViews a (cell x) old image → low_of dp image ≡ set_cell (low_of dp old) a x
 cell_in dp old image a x b h l v =
     let n = length-cell x in
-    let m = length-low dp old (omega arith) l in
-    v.low-within dp b (omega arith) l ∙ sym (overwritten-cell a (low_of dp old) x (omega arith))
+    let m = length_low dp old (omega arith) l in
+    v.low_within dp b (omega arith) l ∙ sym (overwritten_cell a (low_of dp old) x (omega arith))
 
 -- a byte
 byte_written : (xs : List ℕ) (a v : ℕ) → a < length xs → set xs a v ≡ overwritten a (v ∷ []) xs
-byte_written xs a v h = ap (λ (p : List ℕ). set p a v) (sym (overwritten-none a xs)) ∙ overwritten_more a [] xs a v (omega arith) h
+byte_written xs a v h = ap (λ (p : List ℕ). set p a v) (sym (overwritten_none a xs)) ∙ overwritten_more a [] xs a v (omega arith) h
 
 pub byte_in : (dp : ℕ) (xs : List ℕ) (a v : ℕ) → 256 ≤ a → a < dp → dp ≤ length xs → low_of dp (set xs a v) ≡ set (low_of dp xs) a v
 byte_in dp xs a v b h l =
-    let m = length-low dp xs (omega arith) l in
-    ap (low_of dp) (byte_written xs a v (omega arith)) ∙ (low-within a (v ∷ []) xs (omega arith) dp b (omega arith) l ∙ sym (byte_written (low_of dp xs) a v (omega arith)))
+    let m = length_low dp xs (omega arith) l in
+    ap (low_of dp) (byte_written xs a v (omega arith)) ∙ (low_within a (v ∷ []) xs (omega arith) dp b (omega arith) l ∙ sym (byte_written (low_of dp xs) a v (omega arith)))
 
 pub set-written : (xs : List ℕ) (a v : ℕ) → a < length xs → set xs a v ≡ overwritten a (v ∷ []) xs
 set-written = byte_written

@@ -9,7 +9,7 @@ use Rattle.fault.specs.Numbers.{fault_of}
 use Rattle.image.specs.Cells.{cell, set_cell}
 use Rattle.image.specs.Writes.{overwritten}
 use Rattle.image.specs.Views.{line_of, high_of}
-use Rattle.image.proofs.Overwriting.{take-before, drop-behind, overwritten-cell}
+use Rattle.image.proofs.Overwriting.{take-before, drop_behind, overwritten_cell}
 use Rattle.dictionary.specs.Dict.{Dict, appended, with_low}
 use Rattle.dictionary.specs.Lent.{Outside, with_room, Did}
 
@@ -23,7 +23,7 @@ outside_then p q = record { below = q.below ∙ p.below; above = q.above ∙ p.a
 pub outside_written : (a : ℕ) (new xs ys : List ℕ) → 256 ≤ a → a + length new ≤ 32768 → 32768 ≤ length xs → ys ≡ overwritten a new xs → Outside xs ys
 outside_written a new xs ys b h l e = record {
   below = ap (take 256) e ∙ take-before 256 a new xs b (omega arith);
-  above = ap (drop 32768) e ∙ drop-behind 32768 a new xs h (omega arith);
+  above = ap (drop 32768) e ∙ drop_behind 32768 a new xs h (omega arith);
 }
 
 -- the line and data space are outside
@@ -41,15 +41,15 @@ unfolding cell
 bytes_of_cell x bytes e = (e, ap length e)
 
 -- APPENDING, one after the other
-pub appended-two : (A B C : Dict) (xs ys zs : List ℕ) → B ≡ appended xs A → C ≡ appended ys B → xs ++ ys ≡ zs → C ≡ appended zs A
-appended-two A B C xs ys zs p q r = let e = append_assoc A.low xs ys in cc
+pub appended_two : (A B C : Dict) (xs ys zs : List ℕ) → B ≡ appended xs A → C ≡ appended ys B → xs ++ ys ≡ zs → C ≡ appended zs A
+appended_two A B C xs ys zs p q r = let e = append_assoc A.low xs ys in cc
 
-pub appended-none : (D : Dict) → D ≡ appended [] D
-appended-none D = ap (λ l. with_low l D) (sym (append-nil D.low))
+pub appended_none : (D : Dict) → D ≡ appended [] D
+appended_none D = ap (λ l. with_low l D) (sym (append-nil D.low))
 
 -- bytes appended by the list alone
-pub appended-low : (D : Dict) (low bytes : List ℕ) → low ≡ D.low ++ bytes → with_low low D ≡ appended bytes D
-appended-low D low bytes e = ap (λ l. with_low l D) e
+pub appended_low : (D : Dict) (low bytes : List ℕ) → low ≡ D.low ++ bytes → with_low low D ≡ appended bytes D
+appended_low D low bytes e = ap (λ l. with_low l D) e
 
 -- SPACE, given or refused
 pub refused : (n : ℕ) (told : Place) (dp : ℕ) (D E : Dict) (r : Result (Unit {0}) Fault) (y : Fault) → length D.low ≡ dp → r ≡ Err y → y ≡ fault_of DictionaryFull told → 32768 < dp + n → Did (with_room n told D E) D r D

@@ -26,11 +26,11 @@ answer_broken told broken x h = refl
 answer_broken told (hit e) x h = absurd (false≢true (cc))
 
 -- an answer that ends the search, and one that goes on
-pub else-some : (told : Place) (f : Found) (next : Unit {0} → Found) (e : ℕ) (r : Result (Option ℕ) Fault) → Ok (Some e) ≡ answered told f → r ≡ Ok (Some e) → r ≡ answered told (or_else f next)
-else-some told f next e r h k = k ∙ ap (λ g. answered told (or_else g next)) (sym (answer_some told f e h))
+pub else_some : (told : Place) (f : Found) (next : Unit {0} → Found) (e : ℕ) (r : Result (Option ℕ) Fault) → Ok (Some e) ≡ answered told f → r ≡ Ok (Some e) → r ≡ answered told (or_else f next)
+else_some told f next e r h k = k ∙ ap (λ g. answered told (or_else g next)) (sym (answer_some told f e h))
 
-pub else-broken : (told : Place) (f : Found) (next : Unit {0} → Found) (x : Fault) (r : Result (Option ℕ) Fault) → Err x ≡ answered told f → r ≡ Err x → r ≡ answered told (or_else f next)
-else-broken told f next x r h k = k ∙ (h ∙ (ap (answered told) (answer_broken told f x h) ∙ ap (λ g. answered told (or_else g next)) (sym (answer_broken told f x h))))
+pub else_broken : (told : Place) (f : Found) (next : Unit {0} → Found) (x : Fault) (r : Result (Option ℕ) Fault) → Err x ≡ answered told f → r ≡ Err x → r ≡ answered told (or_else f next)
+else_broken told f next x r h k = k ∙ (h ∙ (ap (answered told) (answer_broken told f x h) ∙ ap (λ g. answered told (or_else g next)) (sym (answer_broken told f x h))))
 
-pub else-next : (told : Place) (f : Found) (next : Unit {0} → Found) (r : Result (Option ℕ) Fault) → f ≡ missing → r ≡ answered told (next tt) → r ≡ answered told (or_else f next)
-else-next told f next r h k = k ∙ ap (λ g. answered told (or_else g next)) (sym h)
+pub else_next : (told : Place) (f : Found) (next : Unit {0} → Found) (r : Result (Option ℕ) Fault) → f ≡ missing → r ≡ answered told (next tt) → r ≡ answered told (or_else f next)
+else_next told f next r h k = k ∙ ap (λ g. answered told (or_else g next)) (sym h)

@@ -15,8 +15,8 @@ in_parts low dp before e h =
     let q = and_parts (leb 258 e) (ltb e before) p.0 in
     (leb-true 258 e q.0, ltb-true e before q.1, leb-true (first_at low e + 2) dp p.1)
 
-pub in-from : (low : List ℕ) (dp before e : ℕ) → 258 ≤ e → e < before → first_at low e + 2 ≤ dp → in_order low dp before e ≡ true
-in-from low dp before e a b w = and_from _ _ (and_from _ _ (le-leb 258 e a) (lt-ltb e before b)) (le-leb (first_at low e + 2) dp w)
+pub in_from : (low : List ℕ) (dp before e : ℕ) → 258 ≤ e → e < before → first_at low e + 2 ≤ dp → in_order low dp before e ≡ true
+in_from low dp before e a b w = and_from _ _ (and_from _ _ (le-leb 258 e a) (lt-ltb e before b)) (le-leb (first_at low e + 2) dp w)
 
 -- where the whole entry lies
 pub first_above : (low : List ℕ) (e : ℕ) → e + 5 ≤ first_at low e
@@ -33,13 +33,13 @@ module _ (n : ℕ) (low : List ℕ) (dp : ℕ) (name : List ℕ) (before e : ℕ
   unfolding walk
   walk_broken h o = rw (ne_eqb e 0 h, walk) (rw o refl)
 
-  pub walk-hit : (e ≡ 0 → ⊥) → in_order low dp before e ≡ true → is_named low e name ≡ true → walk (suc n) low dp name before e ≡ hit e
+  pub walk_hit : (e ≡ 0 → ⊥) → in_order low dp before e ≡ true → is_named low e name ≡ true → walk (suc n) low dp name before e ≡ hit e
   unfolding walk
-  walk-hit h o i = rw (ne_eqb e 0 h, walk) (rw o (rw i refl))
+  walk_hit h o i = rw (ne_eqb e 0 h, walk) (rw o (rw i refl))
 
-  pub walk-next : (e ≡ 0 → ⊥) → in_order low dp before e ≡ true → is_named low e name ≡ false → walk (suc n) low dp name before e ≡ walk n low dp name e (cell_at low e)
+  pub walk_next : (e ≡ 0 → ⊥) → in_order low dp before e ≡ true → is_named low e name ≡ false → walk (suc n) low dp name before e ≡ walk n low dp name e (cell_at low e)
   unfolding walk
-  walk-next h o i = rw (ne_eqb e 0 h, walk) (rw o (rw i refl))
+  walk_next h o i = rw (ne_eqb e 0 h, walk) (rw o (rw i refl))
 
 -- where a walk has come: to e, below `before`, with steps enough
 pub record At (low : List ℕ) (dp : ℕ) (name : List ℕ) (before e : ℕ) (f : Found) : Type 0 where
@@ -53,23 +53,23 @@ module _ (low : List ℕ) (dp : ℕ) (name : List ℕ) (before e : ℕ) (f : Fou
     where
       go : (n : ℕ) → before ≤ n → f ≡ walk (suc n) low dp name before e → At low dp name e (cell_at low e) f
       go zero l g = let p = in_parts low dp before e o in (let z : ⊥ = omega arith in absurd z)
-      go (suc n) l g = let p = in_parts low dp before e o in record { fuel = n; enough = omega arith; goes = g ∙ walk-next (suc n) low dp name before e h o i }
+      go (suc n) l g = let p = in_parts low dp before e o in record { fuel = n; enough = omega arith; goes = g ∙ walk_next (suc n) low dp name before e h o i }
 
   -- the same, the entry and its link by other names
-  pub at-linked : (x k : ℕ) → e ≡ x → k ≡ cell_at low x → At low dp name before e f → (e ≡ 0 → ⊥) → in_order low dp before e ≡ true → is_named low e name ≡ false → At low dp name x k f
-  at-linked x k p q a h o i = subst (λ y. At low dp name x y f) (sym q) (subst (λ y. At low dp name y (cell_at low y) f) p (at_more a h o i))
+  pub at_linked : (x k : ℕ) → e ≡ x → k ≡ cell_at low x → At low dp name before e f → (e ≡ 0 → ⊥) → in_order low dp before e ≡ true → is_named low e name ≡ false → At low dp name x k f
+  at_linked x k p q a h o i = subst (λ y. At low dp name x y f) (sym q) (subst (λ y. At low dp name y (cell_at low y) f) p (at_more a h o i))
 
-  pub at-end : At low dp name before e f → e ≡ 0 → f ≡ missing
-  at-end a h = a.goes ∙ walk_end a.fuel low dp name before e h
+  pub at_end_lem : At low dp name before e f → e ≡ 0 → f ≡ missing
+  at_end_lem a h = a.goes ∙ walk_end a.fuel low dp name before e h
 
   pub at_broken : At low dp name before e f → (e ≡ 0 → ⊥) → in_order low dp before e ≡ false → f ≡ broken
   at_broken a h o = a.goes ∙ walk_broken a.fuel low dp name before e h o
 
-  pub at-hit : At low dp name before e f → (e ≡ 0 → ⊥) → in_order low dp before e ≡ true → is_named low e name ≡ true → f ≡ hit e
-  at-hit a h o i = a.goes ∙ walk-hit a.fuel low dp name before e h o i
+  pub at_hit : At low dp name before e f → (e ≡ 0 → ⊥) → in_order low dp before e ≡ true → is_named low e name ≡ true → f ≡ hit e
+  at_hit a h o i = a.goes ∙ walk_hit a.fuel low dp name before e h o i
 
-pub at-start : (low : List ℕ) (dp : ℕ) (name : List ℕ) (h : ℕ) → At low dp name dp h (walk (suc dp) low dp name dp h)
-at-start low dp name h = record { fuel = dp; enough = omega arith; goes = refl }
+pub at_start : (low : List ℕ) (dp : ℕ) (name : List ℕ) (h : ℕ) → At low dp name dp h (walk (suc dp) low dp name dp h)
+at_start low dp name h = record { fuel = dp; enough = omega arith; goes = refl }
 
 -- THE RELATION
 pub walk_le : (low : List ℕ) (h y : ℕ) → Walk low h y → y ≤ h
@@ -105,26 +105,26 @@ walk_from (suc n) low dp name before e len l z = go (eqb e 0) (in_order low dp b
     go true q s hp hq hs k = let h = eqb-true e 0 hp in rw (walk_end n low dp name before e h) (omega arith, (subst (Walk low e) h stop, λ y w l. absurd (omega (arith, walk_le low e y w))))
     go false false s hp hq hs k = rw (walk_broken n low dp name before e (eqb-false e 0 hp) hq) (elim (cases_lt e before) [
       | inr o ↦ inl o
-      | inl o ↦ inr (e, stop, eqb-false e 0 hp, λ d. let w : first_at low e + 2 ≤ dp = omega (arith, d.whole) in false≢true (sym hq ∙ in-from low dp before e d.above o w))
+      | inl o ↦ inr (e, stop, eqb-false e 0 hp, λ d. let w : first_at low e + 2 ≤ dp = omega (arith, d.whole) in false≢true (sym hq ∙ in_from low dp before e d.above o w))
     ])
-    go false true true hp hq hs k = let p = in_parts low dp before e hq in rw (walk-hit n low dp name before e (eqb-false e 0 hp) hq hs) (p.1, (stop, hs, λ y w l. absurd (omega (arith, walk_le low e y w))))
+    go false true true hp hq hs k = let p = in_parts low dp before e hq in rw (walk_hit n low dp name before e (eqb-false e 0 hp) hq hs) (p.1, (stop, hs, λ y w l. absurd (omega (arith, walk_le low e y w))))
     go false true false hp hq hs k = let p = in_parts low dp before e hq in
-        rw (walk-next n low dp name before e (eqb-false e 0 hp) hq hs) (step_from low name before e p.0 p.1 hs (walk n low dp name e (cell_at low e)) (k p.0 p.1))
+        rw (walk_next n low dp name before e (eqb-false e 0 hp) hq hs) (step_from low name before e p.0 p.1 hs (walk n low dp name e (cell_at low e)) (k p.0 p.1))
 
-from-youngest : (low name : List ℕ) (h : ℕ) → 0 < length low → (f : Found) → From low name (length low) h f → Youngest low name h f
-from-youngest low name h z (hit x) f = f.1
-from-youngest low name h z missing f = f.1
-from-youngest low name h z broken (inl l) = (h, stop, (λ e. omega arith), (λ s. omega (arith, s.whole, first_above low h)))
-from-youngest low name h z broken (inr b) = b
+from_youngest : (low name : List ℕ) (h : ℕ) → 0 < length low → (f : Found) → From low name (length low) h f → Youngest low name h f
+from_youngest low name h z (hit x) f = f.1
+from_youngest low name h z missing f = f.1
+from_youngest low name h z broken (inl l) = (h, stop, (λ e. omega arith), (λ s. omega (arith, s.whole, first_above low h)))
+from_youngest low name h z broken (inr b) = b
 
 -- what a walk of the whole thread finds is the youngest
-pub walk-youngest : (low : List ℕ) (dp : ℕ) (name : List ℕ) (h : ℕ) → length low ≡ dp → 0 < dp → Youngest low name h (walk (suc dp) low dp name dp h)
-walk-youngest low dp name h l z = from-youngest low name h (omega arith) (walk (suc dp) low dp name dp h)
+pub walk_youngest : (low : List ℕ) (dp : ℕ) (name : List ℕ) (h : ℕ) → length low ≡ dp → 0 < dp → Youngest low name h (walk (suc dp) low dp name dp h)
+walk_youngest low dp name h l z = from_youngest low name h (omega arith) (walk (suc dp) low dp name dp h)
     (subst (λ d. From low name d h (walk (suc dp) low dp name dp h)) (sym l) (walk_from (suc dp) low dp name dp h l (omega arith) z))
 
 pub finds_youngest : (told : Place) (low : List ℕ) (dp : ℕ) (name : List ℕ) (h : ℕ) (r : Result (Option ℕ) Fault) → length low ≡ dp → 0 < dp
     → r ≡ answered told (walk (suc dp) low dp name dp h) → FindsYoungest told low name h r
-finds_youngest told low dp name h r l z e = (walk (suc dp) low dp name dp h, e, walk-youngest low dp name h l z)
+finds_youngest told low dp name h r l z e = (walk (suc dp) low dp name dp h, e, walk_youngest low dp name h l z)
 
 -- what the answer at one link says
 module _ (told : Place) (low : List ℕ) (dp before e : ℕ) where

@@ -10,7 +10,7 @@ use Rattle.stacks.specs.Stack.{stack_of}
 use Rattle.stacks.proofs.Laws.{drop_stack}
 use Rattle.image.specs.Cells.{cell_at}
 use Rattle.image.specs.Views.{low_of}
-use Rattle.image.proofs.Laws.{length-low}
+use Rattle.image.proofs.Laws.{length_low}
 use Rattle.definition.specs.declared.registers.Mark.{Mark}
 use Rattle.definition.specs.declared.registers.Seat.{Seat}
 use Rattle.definition.specs.declared.registers.Shared.{Shared}
@@ -25,7 +25,7 @@ use Rattle.definition.specs.Words.{taken, perform, do_kernel, execute_within, ex
 use Rattle.definition.proofs.Agreeing.{dp_bottom}
 use Rattle.steps.specs.Seats.{told_by, with_cell_depth}
 use Rattle.steps.specs.Does.{seen, IsRefused}
-use Rattle.steps.proofs.Exits.{depth_of, has_cells_lem, lacks_cells, cells-view}
+use Rattle.steps.proofs.Exits.{depth_of, has_cells_lem, lacks_cells, cells_view}
 use Rattle.codes.specs.Performs.{coded}
 use Rattle.executing.specs.Tokens.{is_execute, Released, Pops, Through}
 
@@ -74,15 +74,15 @@ is_59 : (n : ℕ) → eqb n 59 ≡ true → n ≡ 59
 is_59 n p = grind (arith, nat_tests)
 
 module _ (r : Registers) (i c : List ℕ) (li : length i ≡ 65536) (lc : length c ≡ 128) where
-  low-long : length (low_of r.shared.ends.dp i) ≡ r.shared.ends.dp
-  low-long = length-low r.shared.ends.dp i (dp_bottom r) (omega (arith, r.top))
+  low_long : length (low_of r.shared.ends.dp i) ≡ r.shared.ends.dp
+  low_long = length_low r.shared.ends.dp i (dp_bottom r) (omega (arith, r.top))
 
-  pub in-dictionary : (e : List ℕ) (k : List Mark) (s : Meaning) (a n : ℕ) (b : Bool) → (leb 256 a && leb (a + n) r.shared.ends.dp) ≡ b → in_dictionary a n (seen r i c e k s) ≡ b
-  in-dictionary e k s a n b p = ap (λ d. leb 256 a && leb (a + n) d) low-long ∙ p
+  pub in_dictionary_lem : (e : List ℕ) (k : List Mark) (s : Meaning) (a n : ℕ) (b : Bool) → (leb 256 a && leb (a + n) r.shared.ends.dp) ≡ b → in_dictionary a n (seen r i c e k s) ≡ b
+  in_dictionary_lem e k s a n b p = ap (λ d. leb 256 a && leb (a + n) d) low_long ∙ p
 
   module _ (t : ℕ) (x : is_execute r.shared.ends.dp i t ≡ true) where
     there : (e : List ℕ) (k : List Mark) (s : Meaning) → in_dictionary t 2 (seen r i c e k s) ≡ true
-    there e k s = in-dictionary e k s t 2 true (both (leb 256 t && leb (t + 2) r.shared.ends.dp) (eqb (cell_at (low_of r.shared.ends.dp i) t) 59) x).0
+    there e k s = in_dictionary_lem e k s t 2 true (both (leb 256 t && leb (t + 2) r.shared.ends.dp) (eqb (cell_at (low_of r.shared.ends.dp i) t) 59) x).0
 
     coded-59 : cell_at (low_of r.shared.ends.dp i) t ≡ 59
     coded-59 = is_59 (cell_at (low_of r.shared.ends.dp i) t) (both (leb 256 t && leb (t + 2) r.shared.ends.dp) (eqb (cell_at (low_of r.shared.ends.dp i) t) 59) x).1
@@ -99,7 +99,7 @@ module _ (r : Registers) (i c : List ℕ) (li : length i ≡ 65536) (lc : length
         let n : length (stack_of d c) ≡ d = depth_of r i c e k s lc in
         goes_on t m (there e k s) coded-59 (has_cells_lem r i c e k s lc 1 h.0) (omega (arith, n, h.0))
         ∙ ap (λ y. execute y (popped 1 m)) (sym h.1)
-        ∙ ap (execute u) (sym (cells-view r r' i c c e k s (d - 1) (drop 1 (stack_of d c)) h.2 h.3 (sym (drop_stack d c 1 h.0 (omega (arith, r.cells, lc))))))
+        ∙ ap (execute u) (sym (cells_view r r' i c c e k s (d - 1) (drop 1 (stack_of d c)) h.2 h.3 (sym (drop_stack d c 1 h.0 (omega (arith, r.cells, lc))))))
 
 -- cells released, one after the other
 pub none_released : (r : Registers) → Released r r

@@ -8,7 +8,7 @@ use Rattle.fault.specs.Numbers.{fault_of}
 use Rattle.store.specs.Meaning.{Meaning}
 use Rattle.image.specs.Cells.{cell_at}
 use Rattle.image.specs.Views.{low_of}
-use Rattle.image.proofs.Laws.{length-low, cell-high}
+use Rattle.image.proofs.Laws.{length_low, cell_high}
 use Rattle.entries.specs.Entries.{is_immediate, token_of}
 use Rattle.entries.specs.Search.{Found, missing, broken, hit}
 use Rattle.entries.specs.Threads.{answered}
@@ -34,7 +34,7 @@ use Rattle.finding.specs.declared.word.Word.{Word}
 use Rattle.finding.specs.declared.word.Word.TheVariants.{Immediate, Plain, Number}
 use Rattle.finding.specs.Finding.{Answers, EntryInside, classified, Interpreting, meant, KindIs}
 use Rattle.finding.specs.Kinds.{kind_at}
-use Rattle.finding.proofs.Entering.{Whole, whole-found}
+use Rattle.finding.proofs.Entering.{Whole, whole_found}
 
 -- a refusal stays one, whatever was to follow
 pub refuses_on : {A B : Type 0} (x : Asked A) (g : A → Asked B) (e : Fault) (m : Machine) → IsRefused x e m → IsRefused (x >>= g) e m
@@ -57,13 +57,13 @@ inside_by p low n broken o q h = subst (EntryInside n) (sym q) tt
 inside_by p low n (hit x) o q h = let w = h x refl in let a = first_above low x in subst (EntryInside n) (sym q) (w.0, omega arith)
 
 module _ (r : Registers) (d : Dictionary) (i : List ℕ) (l : length i ≡ 65536) (ro : ReadOff r d) (name : List ℕ) (p : Place) (o : Result (Option ℕ) Fault) (q : o ≡ answered p (searched (lent.dict_of d i) name)) where
-  pub searched-seen : p ≡ told_by r.seat → (c t : List ℕ) (k : List Mark) (s : Meaning) → Answers (ask_found (seen r i c t k s) (searched (dict_of (seen r i c t k s)) name)) o (seen r i c t k s)
-  searched-seen e c t k s = found_by (seen r i c t k s) p (searched (dict_of (seen r i c t k s)) name) o (q ∙ ap (λ D. answered p (searched D name)) (sym (dict_seen r d i c t k s l ro))) e
+  pub searched_seen : p ≡ told_by r.seat → (c t : List ℕ) (k : List Mark) (s : Meaning) → Answers (ask_found (seen r i c t k s) (searched (dict_of (seen r i c t k s)) name)) o (seen r i c t k s)
+  searched_seen e c t k s = found_by (seen r i c t k s) p (searched (dict_of (seen r i c t k s)) name) o (q ∙ ap (λ D. answered p (searched D name)) (sym (dict_seen r d i c t k s l ro))) e
 
   pub found_inside : EntryInside r.shared.ends.dp o
   found_inside =
-      let e : length (low_of d.ends.dp i) ≡ r.shared.ends.dp = ap (λ y. length (low_of y.dp i)) ro.ends ∙ length-low r.shared.ends.dp i (dp_bottom r) (omega (arith, r.top)) in
-      subst (λ n. EntryInside n o) e (inside_by p (low_of d.ends.dp i) (length (low_of d.ends.dp i)) (searched (lent.dict_of d i) name) o q (whole-found (lent.dict_of d i) name))
+      let e : length (low_of d.ends.dp i) ≡ r.shared.ends.dp = ap (λ y. length (low_of y.dp i)) ro.ends ∙ length_low r.shared.ends.dp i (dp_bottom r) (omega (arith, r.top)) in
+      subst (λ n. EntryInside n o) e (inside_by p (low_of d.ends.dp i) (length (low_of d.ends.dp i)) (searched (lent.dict_of d i) name) o q (whole_found (lent.dict_of d i) name))
 
 -- an entry that is there lies in the dictionary
 pub entry_in_lem : (dp : ℕ) (o : Option ℕ) (x : ℕ) → o ≡ Some x → EntryInside dp (Ok o) → (258 ≤ x) × (x + 7 ≤ dp)
@@ -91,12 +91,12 @@ kind_bad t h = ap (λ b. ask t.machine BadName b >>= λ _. ask_found t.machine (
 kind_good : (t : Taken) → is_name t.bytes ≡ true → classified t ≡ (ask_found t.machine (searched (dict_of t.machine) t.bytes) >>= λ found. word_of t.bytes found t.machine)
 kind_good t h = ap (λ b. ask t.machine BadName b >>= λ _. ask_found t.machine (searched (dict_of t.machine) t.bytes) >>= λ found. word_of t.bytes found t.machine) h
 
-meant-at : (b : Bool) (t : ℕ) → (if b then Step.immediate t else Step.plain t) ≡ meant (cond b (Immediate t) (Plain t))
-meant-at true t = refl
-meant-at false t = refl
+meant_at : (b : Bool) (t : ℕ) → (if b then Step.immediate t else Step.plain t) ≡ meant (cond b (Immediate t) (Plain t))
+meant_at true t = refl
+meant_at false t = refl
 
-base-seen : (r : Registers) (i c t : List ℕ) (k : List Mark) (s : Meaning) → base (seen r i c t k s) ≡ cell_at i 32768
-base-seen r i c t k s = cell-high r.shared.ends.here i 32768 (omega arith) (omega (arith, r.space))
+base_seen : (r : Registers) (i c t : List ℕ) (k : List Mark) (s : Meaning) → base (seen r i c t k s) ≡ cell_at i 32768
+base_seen r i c t k s = cell_high r.shared.ends.here i 32768 (omega arith) (omega (arith, r.space))
 
 abbrev judged : Machine → Option ℕ → Asked Step.Word
 judged m y = ask_there m y >>= λ v. given (Step.number v)
@@ -132,12 +132,12 @@ module _ (r : Registers) (i : List ℕ) (w : List ℕ) (pw : w ≡ word_in r.sea
     at_entry o x v z f e = λ c t k s.
         let low = low_of r.shared.ends.dp i in
         goes_on o f c t k s ∙ ap (λ y. word_of (word_in r.seat i) y (seen r i c t k s)) z
-        ∙ ap given (meant-at (is_immediate low x) (token_of low x) ∙ ap meant (sym e))
+        ∙ ap given (meant_at (is_immediate low x) (token_of low x) ∙ ap meant (sym e))
 
     numbered : (o : Option ℕ) (x : ℕ) (n : Option ℕ) → o ≡ None → Searched (Ok o) → x ≡ cell_at i 32768 → n ≡ number_in x w → (c t : List ℕ) (k : List Mark) (s : Meaning) → classified (last r i c t k s) ≡ (elim n as (λ _. Asked Step.Word) [ None ↦ refused NotFound (seen r i c t k s) | Some y ↦ given (Step.number y) ])
     numbered o x n z f ex en c t k s =
         let m = seen r i c t k s in
-        let e : number_in (base m) (word_in r.seat i) ≡ n = ap (λ y. number_in y (word_in r.seat i)) (base-seen r i c t k s ∙ sym ex) ∙ ap (number_in x) (sym pw) ∙ sym en in
+        let e : number_in (base m) (word_in r.seat i) ≡ n = ap (λ y. number_in y (word_in r.seat i)) (base_seen r i c t k s ∙ sym ex) ∙ ap (number_in x) (sym pw) ∙ sym en in
         goes_on o f c t k s ∙ ap (λ y. word_of (word_in r.seat i) y m) z ∙ ap (judged m) e ∙ judge m n
 
     pub a_number : (o : Option ℕ) (x y : ℕ) (n : Option ℕ) → o ≡ None → Searched (Ok o) → x ≡ cell_at i 32768 → n ≡ number_in x w → n ≡ Some y → KindIs r i (Ok (Number y))

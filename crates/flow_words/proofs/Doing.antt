@@ -17,7 +17,7 @@ use Rattle.definition.specs.Stacks.{has_cells, has_room, has_returns, has_return
 use Rattle.definition.specs.Flow.{do_returns}
 use Rattle.steps.specs.Seats.{told_by}
 use Rattle.steps.specs.Does.{seen, acts, OnReturns}
-use Rattle.steps.proofs.Exits.{refused-at, has_cells_lem, lacks_cells}
+use Rattle.steps.proofs.Exits.{refused_at, has_cells_lem, lacks_cells}
 use Rattle.flow_words.proofs.Views.{deep, deep_returns, Popped, Pushed, PoppedReturns, PushedReturn, Went, pop_view, push_view, pop_return_view, push_return_view, go_view, has_returns_lem, lacks_returns, has_return_room_lem, lacks_return_room, has_one, lacks_one}
 
 abbrev Acts : ℕ → ReturnsWord → Type 0
@@ -31,18 +31,18 @@ to_r_acts : Acts 92 Kernel.to_r
 unfolding perform
 to_r_acts again a m = refl
 
-r_from-acts : Acts 93 Kernel.fromR
+r_from_acts : Acts 93 Kernel.fromR
 unfolding perform
-r_from-acts again a m = refl
+r_from_acts again a m = refl
 
 -- R@ and I, and J
 pub r_fetch_acts : Acts 94 (Kernel.copy_at 0)
 unfolding perform
 r_fetch_acts again a m = refl
 
-pub index-acts : Acts 95 (Kernel.copy_at 0)
+pub index_acts : Acts 95 (Kernel.copy_at 0)
 unfolding perform
-index-acts again a m = refl
+index_acts again a m = refl
 
 pub outer_index_acts : Acts 96 (Kernel.copy_at 3)
 unfolding perform
@@ -54,7 +54,7 @@ leave_acts again a m = refl
 
 -- a refusal
 refuses : (n : ℕ) (w : ReturnsWord) → Acts n w → (r : Registers) (c t : List ℕ) (e : Fault) (why : Reason) → ((i : List ℕ) (k : List Mark) (s : Meaning) → do_returns w (seen r i c t k s) ≡ refused why (seen r i c t k s)) → e ≡ fault_of why (told_by r.seat) → (i : List ℕ) → OnReturns n r i c t (Err e) r c t
-refuses n w q r c t e why h p i = λ again a k s. refused-at (acts n again a) (seen r i c t k s) e why (q again a (seen r i c t k s) ∙ h i k s) p
+refuses n w q r c t e why h p i = λ again a k s. refused_at (acts n again a) (seen r i c t k s) e why (q again a (seen r i c t k s) ∙ h i k s) p
 
 -- each question, answered
 exit_no : (m : Machine) → has_returns 1 m ≡ false → do_returns Kernel.exit m ≡ refused ReturnUnderflow m
@@ -78,8 +78,8 @@ to_r_full m h k = rw (h, k)
 to_r_yes : (m : Machine) → has_cells 1 m ≡ true → has_return_room 1 m ≡ true → do_returns Kernel.to_r m ≡ quietly (pushed_returns (nth 0 m ∷ []) (popped 1 m))
 to_r_yes m h k = rw (h, k)
 
-r_from-full : (m : Machine) → has_room 1 m ≡ false → do_returns Kernel.fromR m ≡ refused StackOverflow m
-r_from-full m h = rw h
+r_from_full : (m : Machine) → has_room 1 m ≡ false → do_returns Kernel.fromR m ≡ refused StackOverflow m
+r_from_full m h = rw h
 
 r_from_no : (m : Machine) → has_room 1 m ≡ true → has_returns 1 m ≡ false → do_returns Kernel.fromR m ≡ refused ReturnUnderflow m
 r_from_no m h k = rw (h, k)
@@ -129,14 +129,14 @@ module _ (r : Registers) (c t : List ℕ) (lc : length c ≡ 128) (lt : length t
       ∙ ap quietly (sym (push_return_view r' r'' i c c t t' k s x v ∙ ap (pushed_returns (x ∷ [])) (pop_view r r' i c c t t k s 1 u) ∙ ap (λ y. pushed_returns (y ∷ []) (popped 1 (seen r i c t k s))) p))
 
   pub r_from_over : (e : Fault) → 128 ≤ deep r → e ≡ fault_of StackOverflow (told_by r.seat) → (i : List ℕ) → OnReturns 93 r i c t (Err e) r c t
-  r_from_over e h p = refuses 93 Kernel.fromR r_from-acts r c t e StackOverflow (λ i k s. r_from-full (seen r i c t k s) (lacks_one r i c t k s lc h)) p
+  r_from_over e h p = refuses 93 Kernel.fromR r_from_acts r c t e StackOverflow (λ i k s. r_from_full (seen r i c t k s) (lacks_one r i c t k s lc h)) p
 
-  pub r_from-short : (e : Fault) → deep r < 128 → deep_returns r < 1 → e ≡ fault_of ReturnUnderflow (told_by r.seat) → (i : List ℕ) → OnReturns 93 r i c t (Err e) r c t
-  r_from-short e h b p = refuses 93 Kernel.fromR r_from-acts r c t e ReturnUnderflow (λ i k s. r_from_no (seen r i c t k s) (has_one r i c t k s lc h) (lacks_returns r i c t k s lt 1 b)) p
+  pub r_from_short : (e : Fault) → deep r < 128 → deep_returns r < 1 → e ≡ fault_of ReturnUnderflow (told_by r.seat) → (i : List ℕ) → OnReturns 93 r i c t (Err e) r c t
+  r_from_short e h b p = refuses 93 Kernel.fromR r_from_acts r c t e ReturnUnderflow (λ i k s. r_from_no (seen r i c t k s) (has_one r i c t k s lc h) (lacks_returns r i c t k s lt 1 b)) p
 
-  pub r_from-done : (r' r'' : Registers) (c' : List ℕ) (x : ℕ) → deep r < 128 → 1 ≤ deep_returns r → x ≡ top (deep_returns r) t 0 → PoppedReturns r r' t 1 → Pushed r' r'' c c' x → (i : List ℕ) → OnReturns 93 r i c t (Ok tt) r'' c' t
-  r_from-done r' r'' c' x h b p u v i = λ again a k s.
-      r_from-acts again a (seen r i c t k s) ∙ r_from_yes (seen r i c t k s) (has_one r i c t k s lc h) (has_returns_lem r i c t k s lt 1 b)
+  pub r_from_done : (r' r'' : Registers) (c' : List ℕ) (x : ℕ) → deep r < 128 → 1 ≤ deep_returns r → x ≡ top (deep_returns r) t 0 → PoppedReturns r r' t 1 → Pushed r' r'' c c' x → (i : List ℕ) → OnReturns 93 r i c t (Ok tt) r'' c' t
+  r_from_done r' r'' c' x h b p u v i = λ again a k s.
+      r_from_acts again a (seen r i c t k s) ∙ r_from_yes (seen r i c t k s) (has_one r i c t k s lc h) (has_returns_lem r i c t k s lt 1 b)
       ∙ ap quietly (sym (push_view r' r'' i c c' t t k s x v ∙ ap (pushed x) (pop_return_view r r' i c t k s 1 u) ∙ ap (λ y. pushed y (popped_returns 1 (seen r i c t k s))) p))
 
   -- R@, I and J: the j-th return cell

@@ -9,7 +9,7 @@ use Rattle.store.specs.Meaning.{Meaning}
 use Rattle.stacks.specs.Stack.{stack_of}
 use Rattle.image.specs.Cells.{cell_at}
 use Rattle.image.specs.Views.{low_of}
-use Rattle.image.proofs.Laws.{length-low}
+use Rattle.image.proofs.Laws.{length_low}
 use Rattle.definition.specs.declared.registers.Mark.{Mark}
 use Rattle.definition.specs.declared.ranged.Registers.{Registers}
 use Rattle.definition.specs.Machine.{Machine, told, with_ip}
@@ -23,7 +23,7 @@ use Rattle.numbers.specs.Cells.{wrap, minus}
 use Rattle.definition.proofs.Agreeing.{dp_bottom}
 use Rattle.steps.specs.Seats.{told_by}
 use Rattle.steps.specs.Does.{seen, acts, OnReturns, Does}
-use Rattle.steps.proofs.Exits.{refused-at, has_cells_lem, lacks_cells}
+use Rattle.steps.proofs.Exits.{refused_at, has_cells_lem, lacks_cells}
 use Rattle.flow_words.specs.Numbers.{inside, passes}
 use Rattle.flow_words.specs.Turns.{turned}
 use Rattle.flow_words.proofs.Views.{deep, deep_returns, Popped, Pushed, PoppedReturns, PushedReturn, Went, Skipped, pop_view, push_view, pop_return_view, push_return_view, go_view, skip_view, has_returns_lem, lacks_returns, has_return_room_lem, lacks_return_room, has_one, lacks_one}
@@ -39,17 +39,17 @@ pub branch_acts : Acts 99 Kernel.branch
 unfolding perform
 branch_acts again a m = refl
 
-pub if-zero-acts : Acts 100 Kernel.branchIfZero
+pub if_zero_acts : Acts 100 Kernel.branchIfZero
 unfolding perform
-if-zero-acts again a m = refl
+if_zero_acts again a m = refl
 
 pub do_acts : Acts 101 Kernel.doR
 unfolding perform
 do_acts again a m = refl
 
-pub loop-acts : Acts 102 Kernel.loopR
+pub loop_acts : Acts 102 Kernel.loopR
 unfolding perform
-loop-acts again a m = refl
+loop_acts again a m = refl
 
 pub plus_loop_acts : Acts 103 Kernel.plusLoopR
 unfolding perform
@@ -71,17 +71,17 @@ branch_no m h = rw h
 branch_yes : (m : Machine) → has_inline m ≡ true → do_inline Kernel.branch m ≡ quietly (go_to (inline m) m)
 branch_yes m h = rw h
 
-if-zero-short : (m : Machine) → has_cells 1 m ≡ false → do_inline Kernel.branchIfZero m ≡ refused StackUnderflow m
-if-zero-short m h = rw h
+if_zero_short : (m : Machine) → has_cells 1 m ≡ false → do_inline Kernel.branchIfZero m ≡ refused StackUnderflow m
+if_zero_short m h = rw h
 
-if-zero-no : (m : Machine) → has_cells 1 m ≡ true → has_inline m ≡ false → do_inline Kernel.branchIfZero m ≡ refused BadToken m
-if-zero-no m h k = rw (h, k)
+if_zero_no : (m : Machine) → has_cells 1 m ≡ true → has_inline m ≡ false → do_inline Kernel.branchIfZero m ≡ refused BadToken m
+if_zero_no m h k = rw (h, k)
 
-if-zero-goes : (m : Machine) → has_cells 1 m ≡ true → has_inline m ≡ true → eqb (nth 0 m) 0 ≡ true → do_inline Kernel.branchIfZero m ≡ quietly (go_to (inline m) (popped 1 m))
-if-zero-goes m h k z = rw (h, k, z)
+if_zero_goes : (m : Machine) → has_cells 1 m ≡ true → has_inline m ≡ true → eqb (nth 0 m) 0 ≡ true → do_inline Kernel.branchIfZero m ≡ quietly (go_to (inline m) (popped 1 m))
+if_zero_goes m h k z = rw (h, k, z)
 
-if-zero-stays : (m : Machine) → has_cells 1 m ≡ true → has_inline m ≡ true → eqb (nth 0 m) 0 ≡ false → do_inline Kernel.branchIfZero m ≡ quietly (past (popped 1 m))
-if-zero-stays m h k z = rw (h, k, z)
+if_zero_stays : (m : Machine) → has_cells 1 m ≡ true → has_inline m ≡ true → eqb (nth 0 m) 0 ≡ false → do_inline Kernel.branchIfZero m ≡ quietly (past (popped 1 m))
+if_zero_stays m h k z = rw (h, k, z)
 
 do_short : (m : Machine) → has_cells 2 m ≡ false → do_inline Kernel.doR m ≡ refused StackUnderflow m
 do_short m h = rw h
@@ -95,14 +95,14 @@ do_no m h k j = rw (h, k, j)
 do_yes : (m : Machine) → has_cells 2 m ≡ true → has_return_room 3 m ≡ true → has_inline m ≡ true → do_inline Kernel.doR m ≡ quietly (past (pushed_returns (nth 0 m ∷ nth 1 m ∷ inline m ∷ []) (popped 2 m)))
 do_yes m h k j = rw (h, k, j)
 
-loop-short : (m : Machine) → has_returns 3 m ≡ false → do_inline Kernel.loopR m ≡ refused ReturnUnderflow m
-loop-short m h = rw h
+loop_short : (m : Machine) → has_returns 3 m ≡ false → do_inline Kernel.loopR m ≡ refused ReturnUnderflow m
+loop_short m h = rw h
 
-loop-no : (m : Machine) → has_returns 3 m ≡ true → has_inline m ≡ false → do_inline Kernel.loopR m ≡ refused BadToken m
-loop-no m h k = rw (h, k)
+loop_no : (m : Machine) → has_returns 3 m ≡ true → has_inline m ≡ false → do_inline Kernel.loopR m ≡ refused BadToken m
+loop_no m h k = rw (h, k)
 
-loop-yes : (m : Machine) → has_returns 3 m ≡ true → has_inline m ≡ true → do_inline Kernel.loopR m ≡ quietly (turned 1 (inline m) m)
-loop-yes m h k = rw (h, k)
+loop_yes : (m : Machine) → has_returns 3 m ≡ true → has_inline m ≡ true → do_inline Kernel.loopR m ≡ quietly (turned 1 (inline m) m)
+loop_yes m h k = rw (h, k)
 
 plus_loop_short : (m : Machine) → has_cells 1 m ≡ false → do_inline Kernel.plusLoopR m ≡ refused StackUnderflow m
 plus_loop_short m h = rw h
@@ -117,19 +117,19 @@ plus_loop_yes : (m : Machine) → has_cells 1 m ≡ true → has_returns 3 m ≡
 plus_loop_yes m h k j = rw (h, k, j)
 
 -- a refusal at the popped machine is one at the machine
-refused-popped : (f : Machine → Asked After) (m : Machine) (e : Fault) (why : Reason) → f m ≡ refused why (popped 1 m) → e ≡ fault_of why (told m) → Does f m (Err e) m
-refused-popped f m e why p q = (rw p (q, refl), refl)
+refused_popped : (f : Machine → Asked After) (m : Machine) (e : Fault) (why : Reason) → f m ≡ refused why (popped 1 m) → e ≡ fault_of why (told m) → Does f m (Err e) m
+refused_popped f m e why p q = (rw p (q, refl), refl)
 
 abbrev top : ℕ → List ℕ → ℕ → ℕ
 top d c k = get_or (stack_of d c) k 0
 
 module _ (r : Registers) (i c t : List ℕ) (li : length i ≡ 65536) (lc : length c ≡ 128) (lt : length t ≡ 128) where
   -- the cell at IP
-  low-long : length (low_of r.shared.ends.dp i) ≡ r.shared.ends.dp
-  low-long = length-low r.shared.ends.dp i (dp_bottom r) (omega (arith, r.top))
+  low_long : length (low_of r.shared.ends.dp i) ≡ r.shared.ends.dp
+  low_long = length_low r.shared.ends.dp i (dp_bottom r) (omega (arith, r.top))
 
   inline-is : (k : List Mark) (s : Meaning) (b : Bool) → inside r.seat.flow.ip 2 r.shared.ends.dp ≡ b → has_inline (seen r i c t k s) ≡ b
-  inline-is k s b p = ap (λ d. leb 256 r.seat.flow.ip && leb (r.seat.flow.ip + 2) d) low-long ∙ p
+  inline-is k s b p = ap (λ d. leb 256 r.seat.flow.ip && leb (r.seat.flow.ip + 2) d) low_long ∙ p
 
   abbrev Bad : Fault → Reason → Type 0
   Bad e why = e ≡ fault_of why (told_by r.seat)
@@ -141,7 +141,7 @@ module _ (r : Registers) (i c t : List ℕ) (li : length i ≡ 65536) (lc : leng
   word = cell_at (low_of r.shared.ends.dp i) r.seat.flow.ip
 
   refuses : (n : ℕ) (w : InlineWord) → Acts n w → (e : Fault) (why : Reason) → ((k : List Mark) (s : Meaning) → do_inline w (seen r i c t k s) ≡ refused why (seen r i c t k s)) → Bad e why → OnReturns n r i c t (Err e) r c t
-  refuses n w q e why h p = λ again a k s. refused-at (acts n again a) (seen r i c t k s) e why (q again a (seen r i c t k s) ∙ h k s) p
+  refuses n w q e why h p = λ again a k s. refused_at (acts n again a) (seen r i c t k s) e why (q again a (seen r i c t k s) ∙ h k s) p
 
   pub lit_over : (e : Fault) → 128 ≤ deep r → Bad e StackOverflow → OnReturns 98 r i c t (Err e) r c t
   lit_over e h p = refuses 98 Kernel.lit lit_acts e StackOverflow (λ k s. lit_full (seen r i c t k s) (lacks_one r i c t k s lc h)) p
@@ -162,22 +162,22 @@ module _ (r : Registers) (i c t : List ℕ) (li : length i ≡ 65536) (lc : leng
       branch_acts again a (seen r i c t k s) ∙ branch_yes (seen r i c t k s) (inline-is k s true b)
       ∙ ap quietly (sym (go_view r r' i c c t t k s x v ∙ ap (λ y. go_to y (seen r i c t k s)) p))
 
-  pub if-short : (e : Fault) → deep r < 1 → Bad e StackUnderflow → OnReturns 100 r i c t (Err e) r c t
-  if-short e h p = refuses 100 Kernel.branchIfZero if-zero-acts e StackUnderflow (λ k s. if-zero-short (seen r i c t k s) (lacks_cells r i c t k s lc 1 h)) p
+  pub if_short : (e : Fault) → deep r < 1 → Bad e StackUnderflow → OnReturns 100 r i c t (Err e) r c t
+  if_short e h p = refuses 100 Kernel.branchIfZero if_zero_acts e StackUnderflow (λ k s. if_zero_short (seen r i c t k s) (lacks_cells r i c t k s lc 1 h)) p
 
-  pub if-bad : (e : Fault) → 1 ≤ deep r → Is false → Bad e BadToken → OnReturns 100 r i c t (Err e) r c t
-  if-bad e h b p = refuses 100 Kernel.branchIfZero if-zero-acts e BadToken (λ k s. if-zero-no (seen r i c t k s) (has_cells_lem r i c t k s lc 1 h) (inline-is k s false b)) p
+  pub if_bad : (e : Fault) → 1 ≤ deep r → Is false → Bad e BadToken → OnReturns 100 r i c t (Err e) r c t
+  if_bad e h b p = refuses 100 Kernel.branchIfZero if_zero_acts e BadToken (λ k s. if_zero_no (seen r i c t k s) (has_cells_lem r i c t k s lc 1 h) (inline-is k s false b)) p
 
-  pub if-goes : (r' r'' : Registers) (x z : ℕ) → 1 ≤ deep r → Is true → x ≡ word → z ≡ top (deep r) c 0 → z ≡ 0 → Popped r r' c 1 → Went r' r'' x → OnReturns 100 r i c t (Ok tt) r'' c t
-  if-goes r' r'' x z h b p q n u v = λ again a k s.
+  pub if_goes : (r' r'' : Registers) (x z : ℕ) → 1 ≤ deep r → Is true → x ≡ word → z ≡ top (deep r) c 0 → z ≡ 0 → Popped r r' c 1 → Went r' r'' x → OnReturns 100 r i c t (Ok tt) r'' c t
+  if_goes r' r'' x z h b p q n u v = λ again a k s.
       let o : eqb (top (deep r) c 0) 0 ≡ true = grind (arith, nat_tests) in
-      if-zero-acts again a (seen r i c t k s) ∙ if-zero-goes (seen r i c t k s) (has_cells_lem r i c t k s lc 1 h) (inline-is k s true b) o
+      if_zero_acts again a (seen r i c t k s) ∙ if_zero_goes (seen r i c t k s) (has_cells_lem r i c t k s lc 1 h) (inline-is k s true b) o
       ∙ ap quietly (sym (go_view r' r'' i c c t t k s x v ∙ ap (go_to x) (pop_view r r' i c c t t k s 1 u) ∙ ap (λ y. go_to y (popped 1 (seen r i c t k s))) p))
 
-  pub if-stays : (r' r'' : Registers) (z : ℕ) → 1 ≤ deep r → Is true → z ≡ top (deep r) c 0 → (z ≡ 0 → ⊥) → Popped r r' c 1 → Skipped r' r'' → OnReturns 100 r i c t (Ok tt) r'' c t
-  if-stays r' r'' z h b q n u v = λ again a k s.
+  pub if_stays : (r' r'' : Registers) (z : ℕ) → 1 ≤ deep r → Is true → z ≡ top (deep r) c 0 → (z ≡ 0 → ⊥) → Popped r r' c 1 → Skipped r' r'' → OnReturns 100 r i c t (Ok tt) r'' c t
+  if_stays r' r'' z h b q n u v = λ again a k s.
       let o : eqb (top (deep r) c 0) 0 ≡ false = grind (arith, nat_tests) in
-      if-zero-acts again a (seen r i c t k s) ∙ if-zero-stays (seen r i c t k s) (has_cells_lem r i c t k s lc 1 h) (inline-is k s true b) o
+      if_zero_acts again a (seen r i c t k s) ∙ if_zero_stays (seen r i c t k s) (has_cells_lem r i c t k s lc 1 h) (inline-is k s true b) o
       ∙ ap quietly (sym (skip_view r' r'' i c c t t k s v ∙ ap past (pop_view r r' i c c t t k s 1 u)))
 
   pub do_few : (e : Fault) → deep r < 2 → Bad e StackUnderflow → OnReturns 101 r i c t (Err e) r c t
@@ -199,25 +199,25 @@ module _ (r : Registers) (i c t : List ℕ) (li : length i ≡ 65536) (lc : leng
       do_acts again a m ∙ do_yes m (has_cells_lem r i c t k s lc 2 h) (has_return_room_lem r i c t k s lt 3 g) (inline-is k s true b)
       ∙ ap quietly (sym (skip_view r4 r5 i c c t4 t4 k s w ∙ ap past (e ∙ f)))
 
-  pub loop-few : (e : Fault) → deep_returns r < 3 → Bad e ReturnUnderflow → OnReturns 102 r i c t (Err e) r c t
-  loop-few e h p = refuses 102 Kernel.loopR loop-acts e ReturnUnderflow (λ k s. loop-short (seen r i c t k s) (lacks_returns r i c t k s lt 3 h)) p
+  pub loop_few : (e : Fault) → deep_returns r < 3 → Bad e ReturnUnderflow → OnReturns 102 r i c t (Err e) r c t
+  loop_few e h p = refuses 102 Kernel.loopR loop_acts e ReturnUnderflow (λ k s. loop_short (seen r i c t k s) (lacks_returns r i c t k s lt 3 h)) p
 
-  pub loop-bad : (e : Fault) → 3 ≤ deep_returns r → Is false → Bad e BadToken → OnReturns 102 r i c t (Err e) r c t
-  loop-bad e h b p = refuses 102 Kernel.loopR loop-acts e BadToken (λ k s. loop-no (seen r i c t k s) (has_returns_lem r i c t k s lt 3 h) (inline-is k s false b)) p
+  pub loop_bad : (e : Fault) → 3 ≤ deep_returns r → Is false → Bad e BadToken → OnReturns 102 r i c t (Err e) r c t
+  loop_bad e h b p = refuses 102 Kernel.loopR loop_acts e BadToken (λ k s. loop_no (seen r i c t k s) (has_returns_lem r i c t k s lt 3 h) (inline-is k s false b)) p
 
-  pub loop-done : (r' : Registers) (t' : List ℕ) (x : ℕ) → 3 ≤ deep_returns r → Is true → x ≡ word → ((i c : List ℕ) (k : List Mark) (s : Meaning) → seen r' i c t' k s ≡ turned 1 x (seen r i c t k s)) → OnReturns 102 r i c t (Ok tt) r' c t'
-  loop-done r' t' x h b p v = λ again a k s.
-      loop-acts again a (seen r i c t k s) ∙ loop-yes (seen r i c t k s) (has_returns_lem r i c t k s lt 3 h) (inline-is k s true b)
+  pub loop_done : (r' : Registers) (t' : List ℕ) (x : ℕ) → 3 ≤ deep_returns r → Is true → x ≡ word → ((i c : List ℕ) (k : List Mark) (s : Meaning) → seen r' i c t' k s ≡ turned 1 x (seen r i c t k s)) → OnReturns 102 r i c t (Ok tt) r' c t'
+  loop_done r' t' x h b p v = λ again a k s.
+      loop_acts again a (seen r i c t k s) ∙ loop_yes (seen r i c t k s) (has_returns_lem r i c t k s lt 3 h) (inline-is k s true b)
       ∙ ap quietly (sym (v i c k s ∙ ap (λ y. turned 1 y (seen r i c t k s)) p))
 
   pub plus_short : (e : Fault) → deep r < 1 → Bad e StackUnderflow → OnReturns 103 r i c t (Err e) r c t
   plus_short e h p = refuses 103 Kernel.plusLoopR plus_loop_acts e StackUnderflow (λ k s. plus_loop_short (seen r i c t k s) (lacks_cells r i c t k s lc 1 h)) p
 
   pub plus_few : (e : Fault) → 1 ≤ deep r → deep_returns r < 3 → Bad e ReturnUnderflow → OnReturns 103 r i c t (Err e) r c t
-  plus_few e h b p = λ again a k s. refused-popped (acts 103 again a) (seen r i c t k s) e ReturnUnderflow (plus_loop_acts again a (seen r i c t k s) ∙ plus_loop_few (seen r i c t k s) (has_cells_lem r i c t k s lc 1 h) (lacks_returns r i c t k s lt 3 b)) p
+  plus_few e h b p = λ again a k s. refused_popped (acts 103 again a) (seen r i c t k s) e ReturnUnderflow (plus_loop_acts again a (seen r i c t k s) ∙ plus_loop_few (seen r i c t k s) (has_cells_lem r i c t k s lc 1 h) (lacks_returns r i c t k s lt 3 b)) p
 
   pub plus_bad : (e : Fault) → 1 ≤ deep r → 3 ≤ deep_returns r → Is false → Bad e BadToken → OnReturns 103 r i c t (Err e) r c t
-  plus_bad e h g b p = λ again a k s. refused-popped (acts 103 again a) (seen r i c t k s) e BadToken (plus_loop_acts again a (seen r i c t k s) ∙ plus_loop_no (seen r i c t k s) (has_cells_lem r i c t k s lc 1 h) (has_returns_lem r i c t k s lt 3 g) (inline-is k s false b)) p
+  plus_bad e h g b p = λ again a k s. refused_popped (acts 103 again a) (seen r i c t k s) e BadToken (plus_loop_acts again a (seen r i c t k s) ∙ plus_loop_no (seen r i c t k s) (has_cells_lem r i c t k s lc 1 h) (has_returns_lem r i c t k s lt 3 g) (inline-is k s false b)) p
 
   pub plus_done : (r1 r' : Registers) (t' : List ℕ) (x n : ℕ) → 1 ≤ deep r → 3 ≤ deep_returns r → Is true → x ≡ word → n ≡ top (deep r) c 0 → Popped r r1 c 1 → ((i c : List ℕ) (k : List Mark) (s : Meaning) → seen r' i c t' k s ≡ turned n x (seen r1 i c t k s)) → OnReturns 103 r i c t (Ok tt) r' c t'
   plus_done r1 r' t' x n h g b p q u v = λ again a k s.

@@ -12,7 +12,7 @@ use Rattle.definition.specs.View.{lent, view_of}
 use Rattle.definition.specs.Stacks.{popped, pushed, popped_returns, pushed_returns, go_to, has_returns, has_return_room, has_room}
 use Rattle.steps.specs.Seats.{with_cell_depth, with_return_depth, with_pointer}
 use Rattle.steps.specs.Does.{seen}
-use Rattle.steps.proofs.Exits.{yes, no, has_room_lem, lacks_room, cells-view}
+use Rattle.steps.proofs.Exits.{yes, no, has_room_lem, lacks_room, cells_view}
 
 abbrev pub deep : Registers → ℕ
 deep r = r.seat.depths.cells
@@ -53,10 +53,10 @@ pub record Skipped (r r' : Registers) : Type 0 where
 
 module _ (r r' : Registers) (i c c' t t' : List ℕ) (k : List Mark) (s : Meaning) where
   pub pop_view : (n : ℕ) → Popped r r' c n → seen r' i c t k s ≡ popped n (seen r i c t k s)
-  pop_view n e = cells-view r r' i c c t k s _ _ e.shared e.seat e.stack
+  pop_view n e = cells_view r r' i c c t k s _ _ e.shared e.seat e.stack
 
   pub push_view : (x : ℕ) → Pushed r r' c c' x → seen r' i c' t k s ≡ pushed x (seen r i c t k s)
-  push_view x e = cells-view r r' i c c' t k s _ _ e.shared e.seat e.stack
+  push_view x e = cells_view r r' i c c' t k s _ _ e.shared e.seat e.stack
 
   returns-view : (d : ℕ) (xs : List ℕ) → Returns r r' t' d xs → seen r' i c t' k s ≡ with_returns xs (seen r i c t k s)
   returns-view d xs e =

@@ -28,13 +28,13 @@ pub tested : is_tested boot_dict.low ≡ true
 unfolding boot_dict with_kernel kernel forth_alone entry_bytes cell_at cell set_cell youngest youngest_in first_at link_of
 tested = refl
 
-pub boot-long : length boot_dict.low ≡ 1618
+pub boot_long : length boot_dict.low ≡ 1618
 unfolding boot_dict with_kernel kernel forth_alone entry_bytes cell_at cell set_cell youngest youngest_in first_at link_of
-boot-long = refl
+boot_long = refl
 
-pub boot-ends : cell_at boot_dict.low 278 ≡ 0
+pub boot_ends : cell_at boot_dict.low 278 ≡ 0
 unfolding boot_dict with_kernel kernel forth_alone entry_bytes cell_at cell set_cell youngest youngest_in first_at link_of
-boot-ends = refl
+boot_ends = refl
 
 snd : (x y : Bool) → (x && y) ≡ true → y ≡ true
 snd x y h = (and_parts x y h).1
@@ -70,11 +70,11 @@ booted low h e =
       room = leb-true n 32768 (fst _ _ h₂);
       heads = four low (ltb-true (cell_at low 270) n (fst _ _ h₃)) (ltb-true (cell_at low 272) n (fst _ _ h₄)) (ltb-true (cell_at low 274) n (fst _ _ h₅)) (ltb-true (cell_at low 276) n (fst _ _ h₆));
       whole = all_bytes_lem low (fst _ _ h);
-      newest-from = leb-true 280 y (fst _ _ h₇);
+      newest_from = leb-true 280 y (fst _ _ h₇);
       newest_to = leb-true (y + 3) n (fst _ _ h₈);
       kernel = ltb-true (cell_at low (first_at low y - 2)) 202 h₉;
     }
 
 pub boots : Boots boot_dict
 unfolding boot_dict with_kernel kernel forth_alone entry_bytes cell_at cell set_cell youngest youngest_in first_at link_of
-boots = record { booted = booted boot_dict.low tested boot-ends; link_is = refl; newest_is = refl; context_is = refl; current_is = refl; open_is = refl }
+boots = record { booted = booted boot_dict.low tested boot_ends; link_is = refl; newest_is = refl; context_is = refl; current_is = refl; open_is = refl }

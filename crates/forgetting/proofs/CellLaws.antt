@@ -36,8 +36,8 @@ pub cell_other : (low : List ℕ) (a x b : ℕ) → Apart a b → cell_at (set_c
 cell_other low a x b (inl h) = cell_of_bytes (set_cell low a x) low b (at_other low a x b (omega arith) (omega arith)) (at_other low a x (b + 1) (omega arith) (omega arith))
 cell_other low a x b (inr h) = cell_of_bytes (set_cell low a x) low b (at_other low a x b (omega arith) (omega arith)) (at_other low a x (b + 1) (omega arith) (omega arith))
 
-pub cell-left : (low new : List ℕ) (a : ℕ) → a + 1 < length low → cell_at (low ++ new) a ≡ cell_at low a
-cell-left low new a h = cell_of_bytes (low ++ new) low a (get_or_append_left low new 0 a (omega arith)) (get_or_append_left low new 0 (a + 1) h)
+pub cell_left : (low new : List ℕ) (a : ℕ) → a + 1 < length low → cell_at (low ++ new) a ≡ cell_at low a
+cell_left low new a h = cell_of_bytes (low ++ new) low a (get_or_append_left low new 0 a (omega arith)) (get_or_append_left low new 0 (a + 1) h)
 
 -- a cell of bytes read back byte by byte
 pub low_of_lem : (low : List ℕ) (a : ℕ) → Bytes low → cell_at low a % 256 ≡ at low a

@@ -6,7 +6,7 @@ use Rattle.forgetting.proofs.Raw.{link_of, chain, left, first_at, youngest_in, y
 use Rattle.forgetting.proofs.Stack.{Entry, Image, spot, tail_of, frame, framed, grow, Stack, base, push, image, Mem, Booted, Fits, Good, Under, here, there, fence, newest_of, Walk, stop, next}
 use Rattle.forgetting.proofs.CellLaws.{cell_of_bytes}
 use Rattle.forgetting.proofs.Spacing.{low_of, vocs_of, dp, heads_at, mem_image, dp_push, low_push, voc_room, tail_voc}
-use Rattle.forgetting.proofs.Kept.{good_under, dp-under, voc_under, under_pop, push_right, at_after, link_is, cell-from, near, kept, Head, mem_up, mem_image_older}
+use Rattle.forgetting.proofs.Kept.{good_under, dp_under, voc_under, under_pop, push_right, at_after, link_is, cell_from, near, kept, Head, mem_up, mem_image_older}
 use Rattle.forgetting.proofs.Heads.{head_joined_lem, head_low, head_older, head_new, voc_link_is}
 
 pub vocs_push : (e : Entry) (m : Stack) → ((e.is_voc ≡ true) × (vocs_of (push e m) ≡ heads_at e (image m) ∷ vocs_of m)) ⊎ (vocs_of (push e m) ≡ vocs_of m)
@@ -26,22 +26,22 @@ link_more : (v : ℕ) (vs : List ℕ) (n : ℕ) → link_of (v ∷ vs) < suc n �
 unfolding link_of
 link_more v vs n h = omega arith
 
-pub low-long : (m : Stack) → Good m → 280 ≤ dp m
+pub low_long : (m : Stack) → Good m → 280 ≤ dp m
 unfolding image
-low-long (base I) g = g.long
-low-long (push e m) g = omega (arith, low-long m g.1, dp_push e m)
+low_long (base I) g = g.long
+low_long (push e m) g = omega (arith, low_long m g.1, dp_push e m)
 
 pub link_low : (m : Stack) → Good m → link_of (vocs_of m) < dp m
-link_low m g = link_room (vocs_of m) (dp m) (omega (arith, low-long m g)) (voc_room m g)
+link_low m g = link_room (vocs_of m) (dp m) (omega (arith, low_long m g)) (voc_room m g)
 
 chain_zero : (n : ℕ) (low : List ℕ) → chain n low 0 ≡ []
 unfolding chain
 chain_zero zero low = refl
 chain_zero (suc n) low = refl
 
-chain-step : (n : ℕ) (low : List ℕ) (v : ℕ) (vs : List ℕ) → chain n low (cell_at low (v + 8)) ≡ vs → chain (suc n) low (link_of (v ∷ vs)) ≡ v ∷ vs
+chain_step : (n : ℕ) (low : List ℕ) (v : ℕ) (vs : List ℕ) → chain n low (cell_at low (v + 8)) ≡ vs → chain (suc n) low (link_of (v ∷ vs)) ≡ v ∷ vs
 unfolding chain link_of
-chain-step n low v vs h = rw (ne_eqb (v + 8) 0 (λ x. omega arith)) (ap₂ ◌∷◌ v-is h)
+chain_step n low v vs h = rw (ne_eqb (v + 8) 0 (λ x. omega arith)) (ap₂ ◌∷◌ v-is h)
   where
     v-is : v + 8 - 8 ≡ v
     v-is = omega arith
@@ -60,14 +60,14 @@ ends_at {I} {M} u g = cell_of_bytes (low_of M) I.low 278 (same 278 (omega arith)
 pub chain_in : (m M : Stack) → Under m M → Good M → (low : List ℕ) → ((a : ℕ) → a < dp M → at low a ≡ at (low_of M) a)
     → (n : ℕ) → link_of (vocs_of m) < n → chain n low (link_of (vocs_of m)) ≡ vocs_of m
 chain_in (base I) M u g low f zero h = let z : ⊥ = omega arith in absurd z
-chain_in (base I) M u g low f (suc n) h = unfold image in rw (good_under u g).vocs_are (chain-step n low 270 []
-    (rw (cell_of_bytes low (low_of M) 278 (f 278 (omega (arith, low-long M g))) (f 279 (omega (arith, low-long M g))) ∙ ends_at u g) (chain_zero n low)))
+chain_in (base I) M u g low f (suc n) h = unfold image in rw (good_under u g).vocs_are (chain_step n low 270 []
+    (rw (cell_of_bytes low (low_of M) 278 (f 278 (omega (arith, low_long M g))) (f 279 (omega (arith, low_long M g))) ∙ ends_at u g) (chain_zero n low)))
 chain_in (push e m) M u g low f zero h = let z : ⊥ = omega arith in absurd z
 chain_in (push e m) M u g low f (suc n) h = elim (vocs_push e m) [
-  | inl x ↦ rw x.1 (chain-step n low (heads_at e (image m)) (vocs_of m)
+  | inl x ↦ rw x.1 (chain_step n low (heads_at e (image m)) (vocs_of m)
       (rw (cell_of_bytes low (low_of M) (heads_at e (image m) + 8)
-      (f (heads_at e (image m) + 8) (omega (arith, dp-under u, dp_push e m, tail_voc e.is_voc x.0)))
-      (f (heads_at e (image m) + 8 + 1) (omega (arith, dp-under u, dp_push e m, tail_voc e.is_voc x.0))) ∙ voc_link_is u g x.0)
+      (f (heads_at e (image m) + 8) (omega (arith, dp_under u, dp_push e m, tail_voc e.is_voc x.0)))
+      (f (heads_at e (image m) + 8 + 1) (omega (arith, dp_under u, dp_push e m, tail_voc e.is_voc x.0))) ∙ voc_link_is u g x.0)
       (chain_in m M (under_pop u) g low f n (omega (arith, link_more (heads_at e (image m)) (vocs_of m) n (rw x.1 at h), link_low m (good_under u g).1)))))
   | inr x ↦ rw x (chain_in m M (under_pop u) g low f (suc n) (rw x at h))
 ]
@@ -88,7 +88,7 @@ left_more v vs w h = rw (lt-ltb w v h)
 pub left_is : {s m : Stack} → Under s m → Good m → left (dp s + 2) (vocs_of m) ≡ vocs_of s
 left_is {s} here g = left_all (vocs_of s) (dp s + 2) (λ v x. omega (arith, voc_room s g v x))
 left_is {s} (there {e = e} {m = m} u) g = elim (vocs_push e m) [
-  | inl x ↦ ap (left (dp s + 2)) x.1 ∙ (left_more (heads_at e (image m)) (vocs_of m) (dp s + 2) (omega (arith, dp-under u)) ∙ left_is u g.1)
+  | inl x ↦ ap (left (dp s + 2)) x.1 ∙ (left_more (heads_at e (image m)) (vocs_of m) (dp s + 2) (omega (arith, dp_under u)) ∙ left_is u g.1)
   | inr x ↦ ap (left (dp s + 2)) x ∙ left_is u g.1
 ]
 
@@ -115,7 +115,7 @@ body_bytes e l k = rw (frame_split7 e l k) (
 -- the first parameter cell of an entry holds what it was begun with
 pub body_is : {e : Entry} {s m : Stack} → Under (push e s) m → Good m → cell_at (low_of m) (first_at (low_of m) (dp s + 2)) ≡ e.body
 unfolding first_at
-body_is {e} {s} {m} u g = ap (cell_at (low_of m)) place ∙ cell-from (low_of m) (dp s + (7 + length e.name + 0)) e.body
+body_is {e} {s} {m} u g = ap (cell_at (low_of m)) place ∙ cell_from (low_of m) (dp s + (7 + length e.name + 0)) e.body
     (kept u g (dp s + (7 + length e.name + 0)) (7 + length e.name + 0) refl (omega (arith, dp_push e s)) (inl (omega arith)) ∙ (unfold framed in (body_bytes e (cell_at (low_of s) (spot e)) (link_of (vocs_of s))).0))
     (kept u g (dp s + (7 + length e.name + 0) + 1) (7 + length e.name + 1) (omega arith) (omega (arith, dp_push e s)) (inl (omega arith)) ∙ (unfold framed in (body_bytes e (cell_at (low_of s) (spot e)) (link_of (vocs_of s))).1))
   where
@@ -136,10 +136,10 @@ walk_le (next l r) = omega (arith, walk_le r)
 walk_zero : (low : List ℕ) (h y : ℕ) → h ≡ 0 → Walk low h y → y ≡ 0
 walk_zero low h y q r = omega (arith, walk_le r)
 
-pub fence-low : (m : Stack) → Good m → fence m ≤ dp m
+pub fence_low : (m : Stack) → Good m → fence m ≤ dp m
 unfolding fence image
-fence-low (base I) g = omega arith
-fence-low (push e m) g = omega (arith, fence-low m g.1, dp_push e m)
+fence_low (base I) g = omega arith
+fence_low (push e m) g = omega (arith, fence_low m g.1, dp_push e m)
 
 pub fence_pos : (m : Stack) → Good m → 0 < fence m
 unfolding fence
@@ -174,28 +174,28 @@ found (push e m) M u g v k x l h y q r f = elim (mem_image e m v x) [
     f-pos = fence_pos (push e m) (good_under u g)
 
 -- the youngest entry that a head names
-in-le : (v k : ℕ) (low : List ℕ) (x : ℕ) → ((j : ℕ) → j < k → cell_at low (v + 2 * j) ≤ x) → youngest_in v k low ≤ x
+in_le : (v k : ℕ) (low : List ℕ) (x : ℕ) → ((j : ℕ) → j < k → cell_at low (v + 2 * j) ≤ x) → youngest_in v k low ≤ x
 unfolding youngest_in
-in-le v zero low x h = omega arith
-in-le v (suc k) low x h = omega (arith, h k (omega arith), in-le v k low x (λ j l. h j (omega arith)))
+in_le v zero low x h = omega arith
+in_le v (suc k) low x h = omega (arith, h k (omega arith), in_le v k low x (λ j l. h j (omega arith)))
 
-in-ge : (v k : ℕ) (low : List ℕ) (j : ℕ) → j < k → cell_at low (v + 2 * j) ≤ youngest_in v k low
+in_ge : (v k : ℕ) (low : List ℕ) (j : ℕ) → j < k → cell_at low (v + 2 * j) ≤ youngest_in v k low
 unfolding youngest_in
-in-ge v zero low j l = let z : ⊥ = omega arith in absurd z
-in-ge v (suc k) low j l = elim (cases_eq j k) [
+in_ge v zero low j l = let z : ⊥ = omega arith in absurd z
+in_ge v (suc k) low j l = elim (cases_eq j k) [
   | inl x ↦ rw x (omega arith)
-  | inr x ↦ omega (arith, in-ge v k low j (omega arith))
+  | inr x ↦ omega (arith, in_ge v k low j (omega arith))
 ]
 
 all_le : (vs : List ℕ) (low : List ℕ) (x : ℕ) → ((v j : ℕ) → Mem v vs → j < 4 → cell_at low (v + 2 * j) ≤ x) → youngest vs low ≤ x
 unfolding youngest
 all_le [] low x h = omega arith
-all_le (v ∷ vs) low x h = omega (arith, in-le v 4 low x (λ j l. h v j (inl refl) l), all_le vs low x (λ u j y l. h u j (inr y) l))
+all_le (v ∷ vs) low x h = omega (arith, in_le v 4 low x (λ j l. h v j (inl refl) l), all_le vs low x (λ u j y l. h u j (inr y) l))
 
 all_ge : (vs : List ℕ) (low : List ℕ) (v j : ℕ) → Mem v vs → j < 4 → cell_at low (v + 2 * j) ≤ youngest vs low
 unfolding youngest
 all_ge [] low v j x l = elim x [ ]
-all_ge (u ∷ vs) low v j (inl x) l = rw x (omega (arith, in-ge u 4 low j l))
+all_ge (u ∷ vs) low v j (inl x) l = rw x (omega (arith, in_ge u 4 low j l))
 all_ge (u ∷ vs) low v j (inr x) l = omega (arith, all_ge vs low v j x l)
 
 pub youngest_is : (m : Stack) → Good m → youngest (vocs_of m) (low_of m) ≡ newest_of m

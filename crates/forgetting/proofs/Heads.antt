@@ -6,9 +6,9 @@ use Rattle.std.proofs.lemmas.Bool.{cases_eq, cases_lt, cases_order, lt-ltb, le-l
 use Rattle.image.specs.Cells.{at, cell_at, cell, set_cell, Bytes}
 use Rattle.forgetting.proofs.Raw.{link_of, fall}
 use Rattle.forgetting.proofs.Stack.{Entry, Image, spot, tail_of, frame, framed, grow, Stack, base, push, image, Mem, Booted, Fits, Good, Under, here, there}
-use Rattle.forgetting.proofs.CellLaws.{length-set_cell, at_other, cell_same, cell_other, cell-left, cell_of_bytes, Apart, at_low, at_high}
+use Rattle.forgetting.proofs.CellLaws.{length-set_cell, at_other, cell_same, cell_other, cell_left, cell_of_bytes, Apart, at_low, at_high}
 use Rattle.forgetting.proofs.Spacing.{low_of, vocs_of, dp, heads_at, mem_image, dp_push, low_push, voc_room, vocs_apart, Spaced, tail_voc}
-use Rattle.forgetting.proofs.Kept.{kept_at, under_pop, mem_up, good_under, dp-under, voc_under, push_left, push_right, at_after, link_is, cell-from}
+use Rattle.forgetting.proofs.Kept.{kept_at, under_pop, mem_up, good_under, dp_under, voc_under, push_left, push_right, at_after, link_is, cell_from}
 
 -- two heads are one or apart
 pub spots : (u v k l : ℕ) → Spaced u v → k < 4 → l < 4 → (v + 2 * l ≡ u + 2 * k) ⊎ Apart (u + 2 * k) (v + 2 * l)
@@ -28,11 +28,11 @@ head_older e m g v k h l = elim (spots e.voc v e.thread k (vocs_apart m g.1 e.vo
 ]
   where
     same : cell_at (low_of (push e m)) (v + 2 * k) ≡ cell_at (set_cell (low_of m) (spot e) (dp m + 2)) (v + 2 * k)
-    same = ap (λ z. cell_at z (v + 2 * k)) (low_push e m) ∙ cell-left (set_cell (low_of m) (spot e) (dp m + 2)) (framed e (image m)) (v + 2 * k) (simp length-set_cell (omega (arith, voc_room m g.1 v h)))
+    same = ap (λ z. cell_at z (v + 2 * k)) (low_push e m) ∙ cell_left (set_cell (low_of m) (spot e) (dp m + 2)) (framed e (image m)) (v + 2 * k) (simp length-set_cell (omega (arith, voc_room m g.1 v h)))
 
 pub head_joined_lem : (e : Entry) (m : Stack) → Good (push e m) → cell_at (low_of (push e m)) (spot e) ≡ dp m + 2
 head_joined_lem e m g = ap (λ z. cell_at z (spot e)) (low_push e m)
-    ∙ (cell-left (set_cell (low_of m) (spot e) (dp m + 2)) (framed e (image m)) (spot e) (simp length-set_cell room) ∙ cell_same (low_of m) (spot e) (dp m + 2) room)
+    ∙ (cell_left (set_cell (low_of m) (spot e) (dp m + 2)) (framed e (image m)) (spot e) (simp length-set_cell room) ∙ cell_same (low_of m) (spot e) (dp m + 2) room)
   where
     room : spot e + 1 < dp m
     room = omega (arith, voc_room m g.1 e.voc g.0.voc_in, g.0.thread_lt)
@@ -76,7 +76,7 @@ link_bytes false k q = let z : ◌≡◌ {A = Bool} false true = q in absurd (Ra
 
 -- the vocabulary link
 pub voc_link_is : {e : Entry} {s m : Stack} → Under (push e s) m → Good m → e.is_voc ≡ true → cell_at (low_of m) (heads_at e (image s) + 8) ≡ link_of (vocs_of s)
-voc_link_is {e} {s} {m} u g q = cell-from (low_of m) (heads_at e (image s) + 8) (link_of (vocs_of s))
+voc_link_is {e} {s} {m} u g q = cell_from (low_of m) (heads_at e (image s) + 8) (link_of (vocs_of s))
     (kept_at u g (heads_at e (image s) + 8) (omega arith) (omega (arith, dp_push e s, tail_voc e.is_voc q)) (inr (omega arith))
     ∙ (tail_at e s 8 ∙ (link_bytes e.is_voc (link_of (vocs_of s)) q).0))
     (kept_at u g (heads_at e (image s) + 8 + 1) (omega arith) (omega (arith, dp_push e s, tail_voc e.is_voc q)) (inr (omega arith))
@@ -109,9 +109,9 @@ unfolding fall
 fall_down zero low w h l = refl
 fall_down (suc n) low w h l = rw (lt-ltb h w l)
 
-pub fall-step : (n : ℕ) (low : List ℕ) (w h : ℕ) → w ≤ h → fall (suc n) low w h ≡ fall n low w (cell_at low h)
+pub fall_step : (n : ℕ) (low : List ℕ) (w h : ℕ) → w ≤ h → fall (suc n) low w h ≡ fall n low w (cell_at low h)
 unfolding fall
-fall-step n low w h l = rw (le-ltb h w l)
+fall_step n low w h l = rw (le-ltb h w l)
 
 -- from the head in m, down to the head in s
 pub falls : {s m : Stack} (M : Stack) → Under s m → Under m M → Good M → (v k : ℕ) → Mem v (vocs_of s) → k < 4 → (n : ℕ)
@@ -120,7 +120,7 @@ falls {s} M here t g v k h l n b = fall_down n (low_of M) (dp s + 2) (cell_at (l
 falls {s} M (there {e = e} {m = m} u) t g v k h l zero b = let z : ⊥ = omega arith in absurd z
 falls {s} M (there {e = e} {m = m} u) t g v k h l (suc n) b = elim (head_older e m (good_under t g) v k (mem_up u v h) l) [
   | inl x ↦ ap (fall (suc n) (low_of M) (dp s + 2)) x.1
-      ∙ (fall-step n (low_of M) (dp s + 2) (dp m + 2) (omega (arith, dp-under u))
+      ∙ (fall_step n (low_of M) (dp s + 2) (dp m + 2) (omega (arith, dp_under u))
       ∙ (ap (fall n (low_of M) (dp s + 2)) (link_is t g ∙ ap (cell_at (low_of m)) (sym x.0))
       ∙ falls M u (under_pop t) g v k h l n (omega (arith, x.1, head_low m (good_under t g).1 v k (mem_up u v h) l))))
   | inr x ↦ ap (fall (suc n) (low_of M) (dp s + 2)) x ∙ falls M u (under_pop t) g v k h l (suc n) (omega (arith, x))

@@ -6,23 +6,23 @@ use Rattle.std.proofs.lemmas.Bool.{cases_eq, cases_lt}
 use Rattle.image.specs.Cells.{at, cell_at, cell, set_cell, Bytes}
 use Rattle.forgetting.proofs.Raw.{link_of}
 use Rattle.forgetting.proofs.Stack.{Entry, Image, spot, tail_of, frame, framed, grow, Stack, base, push, image, Mem, Booted, Fits, Good, Under, here, there}
-use Rattle.forgetting.proofs.CellLaws.{length-set_cell, at_other, cell_same, cell_other, cell-left, cell_of_bytes, Apart, at_low, at_high}
+use Rattle.forgetting.proofs.CellLaws.{length-set_cell, at_other, cell_same, cell_other, cell_left, cell_of_bytes, Apart, at_low, at_high}
 use Rattle.forgetting.proofs.Spacing.{mem_older, low_of, vocs_of, dp, heads_at, mem_image, dp_push, low_push, voc_room, vocs_apart, Spaced, tail_voc}
 
 pub good_under : {s m : Stack} → Under s m → Good m → Good s
 good_under here g = g
 good_under (there u) g = good_under u g.1
 
-pub dp-under : {s m : Stack} → Under s m → dp s ≤ dp m
-dp-under here = omega arith
-dp-under (there {e = e} {m = m} u) = omega (arith, dp-under u, dp_push e m)
+pub dp_under : {s m : Stack} → Under s m → dp s ≤ dp m
+dp_under here = omega arith
+dp_under (there {e = e} {m = m} u) = omega (arith, dp_under u, dp_push e m)
 
 -- a vocabulary of m that starts below DP of s is one of s
 pub voc_under : {s m : Stack} → Under s m → (v : ℕ) → Mem v (vocs_of m) → v ≤ dp s + 2 → Mem v (vocs_of s)
 voc_under here v h l = h
 voc_under (there {e = e} {m = m} u) v h l = elim (mem_image e m v h) [
   | inl x ↦ voc_under u v x l
-  | inr x ↦ let k : ⊥ = omega (arith, dp-under u, x.1) in absurd k
+  | inr x ↦ let k : ⊥ = omega (arith, dp_under u, x.1) in absurd k
 ]
 
 pub under_pop : {e : Entry} {m M : Stack} → Under (push e m) M → Under m M
@@ -56,10 +56,10 @@ near here g a h = inl refl
 near {s} (there {e = e} {m = m} u) g a h = elim (near u g.1 a h) [
   | inr x ↦ inr x
   | inl x ↦ elim (cases_lt a (spot e)) [
-    | inl y ↦ inl (push_left e m a (omega (arith, dp-under u)) ∙ (at_other (low_of m) (spot e) (dp m + 2) a (omega arith) (omega arith) ∙ x))
+    | inl y ↦ inl (push_left e m a (omega (arith, dp_under u)) ∙ (at_other (low_of m) (spot e) (dp m + 2) a (omega arith) (omega arith) ∙ x))
     | inr y ↦ elim (cases_lt a (spot e + 2)) [
       | inl z ↦ inr (e.voc, voc_under u e.voc g.0.voc_in (omega arith), omega arith, omega (arith, g.0.thread_lt))
-      | inr z ↦ inl (push_left e m a (omega (arith, dp-under u)) ∙ (at_other (low_of m) (spot e) (dp m + 2) a (omega arith) (omega arith) ∙ x))
+      | inr z ↦ inl (push_left e m a (omega (arith, dp_under u)) ∙ (at_other (low_of m) (spot e) (dp m + 2) a (omega arith) (omega arith) ∙ x))
     ]
   ]
 ]
@@ -79,13 +79,13 @@ pub kept : {e : Entry} {s m : Stack} → Under (push e s) m → Good m → (a j 
     → (a < heads_at e (image s)) ⊎ (heads_at e (image s) + 8 ≤ a) → at (low_of m) a ≡ at (framed e (image s)) j
 kept {e} {s} u g a j q h o = kept_at u g a (omega arith) h o ∙ (ap (at (low_of (push e s))) q ∙ push_right e s j)
 
-pub cell-from : (low : List ℕ) (a x : ℕ) → at low a ≡ x % 256 → at low (a + 1) ≡ x / 256 → cell_at low a ≡ x
+pub cell_from : (low : List ℕ) (a x : ℕ) → at low a ≡ x % 256 → at low (a + 1) ≡ x / 256 → cell_at low a ≡ x
 unfolding cell_at
-cell-from low a x p q = omega arith
+cell_from low a x p q = omega arith
 
 -- the link cell
 pub link_is : {e : Entry} {s m : Stack} → Under (push e s) m → Good m → cell_at (low_of m) (dp s + 2) ≡ cell_at (low_of s) (spot e)
 unfolding framed frame cell
-link_is {e} {s} {m} u g = cell-from (low_of m) (dp s + 2) (cell_at (low_of s) (spot e))
+link_is {e} {s} {m} u g = cell_from (low_of m) (dp s + 2) (cell_at (low_of s) (spot e))
     (kept u g (dp s + 2) 2 refl (omega (arith, dp_push e s)) (inl (omega arith)))
     (kept u g (dp s + 2 + 1) 3 (omega arith) (omega (arith, dp_push e s)) (inl (omega arith)))

@@ -59,8 +59,8 @@ meets give_up D = refl
 counted : (name : List ℕ) → length name ≤ 31 → Prim.Native.Nat.◌%◌ (count_byte 0 name) 32 ≡ length name
 counted name h = omega arith
 
-begins-plain : (view code : ℕ) (name rest : List ℕ) (D : Dict) → Begins view name code rest D → ((code ≡ 202) ⊎ (code ≡ 205) → 2 ≤ length rest) → moves.Begins (entry_of D view (count_byte 0 name) name code rest false) D
-begins-plain view code name rest D b x =
+begins_plain : (view code : ℕ) (name rest : List ℕ) (D : Dict) → Begins view name code rest D → ((code ≡ 202) ⊎ (code ≡ 205) → 2 ≤ length rest) → moves.Begins (entry_of D view (count_byte 0 name) name code rest false) D
+begins_plain view code name rest D b x =
     let e = frame_plain D view code name rest (cell_at D.low (thread_of (at name 0) D)) D.voc_link in
     record {
       shut = b.shut;
@@ -89,8 +89,8 @@ on_chain_lem v (x ∷ xs) (inl e) = inl e
 on_chain_lem v (x ∷ xs) (inr h) = inr (on_chain_lem v xs h)
 
 allowed : (F : ℕ) (c : Change) (D : Dict) → Allowed F c D → moves.Allowed F (move_of c) D
-allowed F (colon view name) D a = begins-plain view 201 name [] D a (λ k. absurd (elim k [ inl z ↦ omega arith | inr z ↦ omega arith ]))
-allowed F (define view name code rest) D a = begins-plain view code name rest D a.0 a.1
+allowed F (colon view name) D a = begins_plain view 201 name [] D a (λ k. absurd (elim k [ inl z ↦ omega arith | inr z ↦ omega arith ]))
+allowed F (define view name code rest) D a = begins_plain view code name rest D a.0 a.1
 allowed F (vocabulary view name) D a = begins_heads view name D a
 allowed F (append bytes) D a = record { is_open = a.is_open; room = a.room; whole = a.whole }
 allowed F (patch i x) D a = record { is_open = a.is_open; above = a.above; below = a.below; value = a.value }

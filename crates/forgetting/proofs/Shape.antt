@@ -6,7 +6,7 @@ use Rattle.forgetting.proofs.Raw.{link_of}
 use Rattle.forgetting.proofs.Stack.{Entry, Image, spot, tail_of, frame, framed, grow, Stack, base, push, image, Mem, Booted, Fits, Good, Under, here, there, fence, newest_of}
 use Rattle.forgetting.proofs.Moves.{Dict}
 use Rattle.forgetting.proofs.Spacing.{low_of, vocs_of, dp, heads_at, dp_push}
-use Rattle.forgetting.proofs.Kept.{good_under, dp-under}
+use Rattle.forgetting.proofs.Kept.{good_under, dp_under}
 
 -- no entry open: the dictionary is the image of a stack
 pub record Shut (F : ℕ) (D : Dict) (m : Stack) : Type 0 where
@@ -51,9 +51,9 @@ abbrev pub Stand : Stack → ℕ → Shape → Type 0
 Stand s b (shut m) = Over s b m
 Stand s b (opened e m) = ((m ≡ s) × (e.body ≡ b)) ⊎ Over s b m
 
-pub set_cell-left : (xs ys : List ℕ) (a x : ℕ) → a + 1 < length xs → set_cell (xs ++ ys) a x ≡ set_cell xs a x ++ ys
+pub set_cell_left : (xs ys : List ℕ) (a x : ℕ) → a + 1 < length xs → set_cell (xs ++ ys) a x ≡ set_cell xs a x ++ ys
 unfolding set_cell
-set_cell-left xs ys a x h = rw (set-append_left xs ys a (x % 256) (omega arith)) (set-append_left (set xs a (x % 256)) ys (a + 1) (x / 256) (simp length-set h))
+set_cell_left xs ys a x h = rw (set-append_left xs ys a (x % 256) (omega arith)) (set-append_left (set xs a (x % 256)) ys (a + 1) (x / 256) (simp length-set h))
 
 pub set_cell_right : (xs ys : List ℕ) (n a x : ℕ) → length xs ≡ n → n ≤ a → set_cell (xs ++ ys) a x ≡ xs ++ set_cell ys (a - n) x
 unfolding set_cell
@@ -97,15 +97,15 @@ pub under_cases : (x : Stack) (f : Entry) (m : Stack) → Under x (push f m) →
 under_cases x f m here = inl refl
 under_cases x f m (there u) = inr u
 
-under-base_is : (x : Stack) (I : Image) → Under x (base I) → x ≡ base I
-under-base_is x I here = refl
+under_base_is : (x : Stack) (I : Image) → Under x (base I) → x ≡ base I
+under_base_is x I here = refl
 
 abbrev Pushed : Stack → Type 0
 Pushed (base I) = ⊥
 Pushed (push e m) = Unit {0}
 
-pub under-base : {e : Entry} {s : Stack} {I : Image} → Under (push e s) (base I) → ⊥
-under-base {e} {s} {I} u = subst Pushed (under-base_is (push e s) I u) tt
+pub under_base : {e : Entry} {s : Stack} {I : Image} → Under (push e s) (base I) → ⊥
+under_base {e} {s} {I} u = subst Pushed (under_base_is (push e s) I u) tt
 
 abbrev pub pop_of : Stack → Stack
 pop_of (base I) = base I
@@ -116,12 +116,12 @@ body_of f (base I) = f.body
 body_of f (push e m) = e.body
 
 -- of two entries on the stack the older lies under the younger
-pub under-order : {e f : Entry} {s t M : Stack} → Under (push e s) M → Under (push f t) M → dp s < dp t → Under (push e s) t
-under-order {e} {f} {s} {t} u here l = elim (under_cases (push e s) f t u) [
+pub under_order : {e f : Entry} {s t M : Stack} → Under (push e s) M → Under (push f t) M → dp s < dp t → Under (push e s) t
+under_order {e} {f} {s} {t} u here l = elim (under_cases (push e s) f t u) [
   | inl q ↦ (let z : ⊥ = omega (arith, ap (λ x. dp (pop_of x)) q) in absurd z)
   | inr v ↦ v
 ]
-under-order {e} {f} {s} {t} u (there {e = i} {m = m} v) l = elim (under_cases (push e s) i m u) [
-  | inl q ↦ (let z : ⊥ = omega (arith, ap (λ x. dp (pop_of x)) q, dp-under v, dp_push f t) in absurd z)
-  | inr w ↦ under-order w v l
+under_order {e} {f} {s} {t} u (there {e = i} {m = m} v) l = elim (under_cases (push e s) i m u) [
+  | inl q ↦ (let z : ⊥ = omega (arith, ap (λ x. dp (pop_of x)) q, dp_under v, dp_push f t) in absurd z)
+  | inr w ↦ under_order w v l
 ]

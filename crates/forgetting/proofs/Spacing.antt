@@ -6,7 +6,7 @@ use Rattle.std.proofs.lemmas.Bool.{cases_eq, cases_lt}
 use Rattle.image.specs.Cells.{at, cell_at, cell, set_cell, Bytes}
 use Rattle.forgetting.proofs.Raw.{link_of}
 use Rattle.forgetting.proofs.Stack.{Entry, Image, spot, tail_of, frame, framed, grow, Stack, base, push, image, Mem, Booted, Fits, Good, Under, here, there}
-use Rattle.forgetting.proofs.CellLaws.{length-set_cell, at_other, cell_same, cell_other, cell-left, cell_of_bytes, Apart, at_low, at_high}
+use Rattle.forgetting.proofs.CellLaws.{length-set_cell, at_other, cell_same, cell_other, cell_left, cell_of_bytes, Apart, at_low, at_high}
 
 abbrev pub low_of : Stack → List ℕ
 low_of m = (image m).low

@@ -64,7 +64,7 @@ pub record Booted (I : Image) : Type 0 where
   pub room : length I.low ≤ 32768
   pub heads : (k : ℕ) → k < 4 → cell_at I.low (270 + 2 * k) < length I.low
   pub whole : Bytes I.low
-  pub newest-from : 280 ≤ youngest I.vocs I.low
+  pub newest_from : 280 ≤ youngest I.vocs I.low
   pub newest_to : youngest I.vocs I.low + 3 ≤ length I.low
   pub kernel : (cell_at I.low (first_at I.low (youngest I.vocs I.low) - 2) < 202)
 

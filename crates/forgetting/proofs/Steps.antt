@@ -9,10 +9,10 @@ use Rattle.forgetting.proofs.Moves.{marked, Dict, Move, colon, make, append, pat
 use Rattle.forgetting.proofs.Story.{Begin}
 use Rattle.forgetting.proofs.CellLaws.{length-set_cell, cell_of_bytes}
 use Rattle.forgetting.proofs.Spacing.{low_of, vocs_of, dp, heads_at, dp_push, low_push, length_grow, length_frame, voc_room}
-use Rattle.forgetting.proofs.Kept.{good_under, dp-under, under_pop, mem_up, mem_image_older, voc_under, at_after, push_right, cell-from}
+use Rattle.forgetting.proofs.Kept.{good_under, dp_under, under_pop, mem_up, mem_image_older, voc_under, at_after, push_right, cell_from}
 use Rattle.forgetting.proofs.Trims.{trims, whole, set-bytes, append-bytes}
-use Rattle.forgetting.proofs.Chains.{forth_in, chain_in, chain_is, left_is, body_is, found, On, youngest_is, link_low, low-long, vocs_push}
-use Rattle.forgetting.proofs.Shape.{under-base, pop_of, body_of, under_cases, Shut, Opened, Shape, shut, opened, Fit, Stand, Over, set_cell-left, set_cell_right, head9, length_head9, frame_split9, frame_plain, with_rest, with_count, with_rest_head, under-order}
+use Rattle.forgetting.proofs.Chains.{forth_in, chain_in, chain_is, left_is, body_is, found, On, youngest_is, link_low, low_long, vocs_push}
+use Rattle.forgetting.proofs.Shape.{under_base, pop_of, body_of, under_cases, Shut, Opened, Shape, shut, opened, Fit, Stand, Over, set_cell_left, set_cell_right, head9, length_head9, frame_split9, frame_plain, with_rest, with_count, with_rest_head, under_order}
 
 -- what a move leaves: a shape again, and every word that the move does not end
 abbrev pub Goes : ℕ → Move → Dict → Shape → Type 0
@@ -21,19 +21,19 @@ Goes F v D x = (y : Shape) × Fit F (apply v D) y × ((s : Stack) (b : ℕ) → 
 pub chain_of_lem : (F : ℕ) (D : Dict) (m : Stack) → Shut F D m → chain_of D ≡ vocs_of m
 chain_of_lem F D m c = rw (c.low_is, c.link_is) (chain_is m m here c.good (dp m) (link_low m c.good))
 
-pub fence-under : {s m : Stack} → Under s m → fence s ≡ fence m
+pub fence_under : {s m : Stack} → Under s m → fence s ≡ fence m
 unfolding fence
-fence-under here = refl
-fence-under (there u) = fence-under u
+fence_under here = refl
+fence_under (there u) = fence_under u
 
 -- FORGET of the entry over s
 module _ (F : ℕ) (D : Dict) (M s : Stack) (e : Entry) (c : Shut F D M) (u : Under (push e s) M) where
   left_over : left (dp s + 2) (chain_of D) ≡ vocs_of s
   left_over = ap (left (dp s + 2)) (chain_of_lem F D M c) ∙ left_is (under_pop u) c.good
 
-  pub forget-low : (apply (forget (dp s + 2)) D).low ≡ low_of s
+  pub forget_low : (apply (forget (dp s + 2)) D).low ≡ low_of s
   unfolding apply
-  forget-low = rw (left_over, c.low_is) (ap (λ k. take k (trim_vocs (dp s + 2) (vocs_of s) (low_of M))) two ∙ trims s M (under_pop u) c.good)
+  forget_low = rw (left_over, c.low_is) (ap (λ k. take k (trim_vocs (dp s + 2) (vocs_of s) (low_of M))) two ∙ trims s M (under_pop u) c.good)
     where
       two : dp s + 2 - 2 ≡ dp s
       two = omega arith
@@ -46,25 +46,25 @@ module _ (F : ℕ) (D : Dict) (M s : Stack) (e : Entry) (c : Shut F D M) (u : Un
   unfolding apply
   forget_link = ap link_of left_over
 
-  pub forget-newest : (apply (forget (dp s + 2)) D).newest ≡ newest_of s
+  pub forget_newest : (apply (forget (dp s + 2)) D).newest ≡ newest_of s
   unfolding apply
-  forget-newest = ap₂ youngest left_over forget-low ∙ youngest_is s (good_under (under_pop u) c.good)
+  forget_newest = ap₂ youngest left_over forget_low ∙ youngest_is s (good_under (under_pop u) c.good)
 
 pub go_forget : (F : ℕ) (D : Dict) (M : Stack) (w : ℕ) → Shut F D M → Finds F w D → Goes F (forget w) D (shut M)
 go_forget F D M w c f = rw o.3 (
   shut s,
   record {
-    low_is = forget-low F D M s o.0 c o.2;
+    low_is = forget_low F D M s o.0 c o.2;
     link_is = forget_link F D M s o.0 c o.2;
-    newest_is = forget-newest F D M s o.0 c o.2;
+    newest_is = forget_newest F D M s o.0 c o.2;
     context_in = unfold apply in cond_both (ltb (dp s + 2) D.context) 270 D.context (λ v. Mem v (vocs_of s)) (λ q. forth_in s gs)
         (λ q. voc_under (under_pop o.2) D.context c.context_in (omega (arith, ltb-false (dp s + 2) D.context q)));
     current_in = unfold apply in o.4;
     open_is = unfold apply in refl;
-    fence_is = fence-under (under_pop o.2) ∙ c.fence_is;
+    fence_is = fence_under (under_pop o.2) ∙ c.fence_is;
     good = gs;
   },
-  λ t b x n. (x.0, under-order x.1 o.2 (lower t n), x.2),
+  λ t b x n. (x.0, under_order x.1 o.2 (lower t n), x.2),
 )
   where
     o : On D.current w M
@@ -80,9 +80,9 @@ go_forget F D M w c f = rw o.3 (
     lower : (t : Stack) → ¬ (dp s + 2 ≤ dp t + 2) → dp t < dp s
     lower t n = omega arith
 
-pub go_give_up-shut : (F : ℕ) (D : Dict) (m : Stack) → Shut F D m → Goes F give_up D (shut m)
+pub go_give_up_shut : (F : ℕ) (D : Dict) (m : Stack) → Shut F D m → Goes F give_up D (shut m)
 unfolding apply
-go_give_up-shut F D m c = (
+go_give_up_shut F D m c = (
   shut m,
   record {
     low_is = rw c.open_is c.low_is;
@@ -131,8 +131,8 @@ module _ (F : ℕ) (D : Dict) (m : Stack) (e : Entry) (c : Shut F D m) (a : Begi
   unfolding framed
   length_framed = length_frame e (cell_at (low_of m) (spot e)) (link_of (vocs_of m))
 
-  pub begun-fits : e.voc ≡ D.current → e.thread ≡ at e.name 0 % 4 → Fits e (image m)
-  begun-fits q r = record {
+  pub begun_fits : e.voc ≡ D.current → e.thread ≡ at e.name 0 % 4 → Fits e (image m)
+  begun_fits q r = record {
     voc_in = rw q c.current_in;
     thread_lt = omega arith;
     counted = a.counted;
@@ -154,7 +154,7 @@ go_colon F D m view count name c a = (
     open_is = ap (λ l. length l + 2) c.low_is;
     fence_is = c.fence_is;
     good = c.good;
-    fits = begun-fits F D m e c a refl refl;
+    fits = begun_fits F D m e c a refl refl;
     plain = refl;
     code_is = refl;
     thread_is = refl;
@@ -168,7 +168,7 @@ go_colon F D m view count name c a = (
 
 -- begun and joined, the bytes are those of the stack with the entry
 pub joined_is : (e : Entry) (m : Stack) → Good (push e m) → set_cell (low_of m ++ framed e (image m)) (spot e) (dp m + 2) ≡ low_of (push e m)
-joined_is e m g = set_cell-left (low_of m) (framed e (image m)) (spot e) (dp m + 2) (omega (arith, voc_room m g.1 e.voc g.0.voc_in, g.0.thread_lt)) ∙ sym (low_push e m)
+joined_is e m g = set_cell_left (low_of m) (framed e (image m)) (spot e) (dp m + 2) (omega (arith, voc_room m g.1 e.voc g.0.voc_in, g.0.thread_lt)) ∙ sym (low_push e m)
 
 link_cond : (b : Bool) (n k h : ℕ) (vs : List ℕ) → n ≡ h + cond b 10 0 → k ≡ link_of vs → cond b (n - 2) k ≡ link_of (cond b (h ∷ vs) vs)
 unfolding link_of
@@ -197,7 +197,7 @@ go_make F D m view count name code rest is_voc more c a = (
     e = entry_of D view count name code rest is_voc
 
     g : Good (push e m)
-    g = (begun-fits F D m e c a refl refl, c.good)
+    g = (begun_fits F D m e c a refl refl, c.good)
 
     long : length (begun e D) ≡ heads_at e (image m) + cond is_voc 10 0
     long = ap length (begun_is F D m e c a) ∙ (length-append (low_of m) (framed e (image m)) ∙ omega (arith, length_framed F D m e c a))
@@ -362,9 +362,9 @@ swap_top s b e f m q x = elim (under_cases (push x.0 s) e m x.1) [
   | inr y ↦ (x.0, there y, x.2)
 ]
 
-set-count : (e : Entry) (I : Image) (c : ℕ) → set (framed e I) 4 c ≡ framed (with_count e c) I
+set_count : (e : Entry) (I : Image) (c : ℕ) → set (framed e I) 4 c ≡ framed (with_count e c) I
 unfolding framed frame cell
-set-count e I c = refl
+set_count e I c = refl
 
 marked_same : (c : ℕ) → marked c % 32 ≡ c % 32
 marked_same c = cond_both (ltb (c % 128) 64) (c + 64) c (λ x. x % 32 ≡ c % 32) (λ q. omega arith) (λ q. refl)
@@ -372,8 +372,8 @@ marked_same c = cond_both (ltb (c % 128) 64) (c + 64) c (λ x. x % 32 ≡ c % 32
 marked_byte : (c : ℕ) → c < 256 → marked c < 256
 marked_byte c h = cond_both (ltb (c % 128) 64) (c + 64) c (λ x. x < 256) (λ q. omega (arith, ltb-true (c % 128) 64 q)) (λ q. h)
 
-set-bytes_1 : (low : List ℕ) (i x : ℕ) → x < 256 → Bytes low → Bytes (set low i x)
-set-bytes_1 low i x h b a = elim (cases_lt i (length low)) [
+set_bytes_1 : (low : List ℕ) (i x : ℕ) → x < 256 → Bytes low → Bytes (set low i x)
+set_bytes_1 low i x h b a = elim (cases_lt i (length low)) [
   | inl l ↦ elim (cases_eq a i) [ inl q ↦ rw (q, get_or-set_same low i x 0 l) h | inr q ↦ rw (get_or-set_other low i a x 0 q) (b a) ]
   | inr l ↦ rw (set_past low i x l) (b a)
 ]
@@ -436,7 +436,7 @@ go_immediate_top F D e m c = (shut (push f m), retop e f m refl refl refl F D (a
         ∙ (ap (λ l. set l (D.newest + 2) c') (top_set F D e m c)
         ∙ (set-append_right (set_cell (low_of m) (spot e) (dp m + 2)) (framed e (image m)) (dp m) (D.newest + 2) c' (length-set_cell (low_of m) (spot e) (dp m + 2)) (omega (arith, newest_top F D e m c))
         ∙ (ap (λ k. set_cell (low_of m) (spot e) (dp m + 2) ++ set (framed e (image m)) k c') four
-        ∙ (ap (λ z. set_cell (low_of m) (spot e) (dp m + 2) ++ z) (set-count e (image m) c') ∙ sym (low_push f m)))))
+        ∙ (ap (λ z. set_cell (low_of m) (spot e) (dp m + 2) ++ z) (set_count e (image m) c') ∙ sym (low_push f m)))))
 
     fit : Fits f (image m)
     fit = record {
@@ -444,7 +444,7 @@ go_immediate_top F D e m c = (shut (push f m), retop e f m refl refl refl F D (a
       thread_lt = g.0.thread_lt;
       counted = marked_same e.count ∙ g.0.counted;
       room = same_room e f m refl refl refl g.0.room;
-      whole = rw (← set-count e (image m) c') (set-bytes_1 (framed e (image m)) 4 c' (marked_byte e.count (rw (framed_count e (image m)) at (g.0.whole 4))) g.0.whole);
+      whole = rw (← set_count e (image m) c') (set_bytes_1 (framed e (image m)) 4 c' (marked_byte e.count (rw (framed_count e (image m)) at (g.0.whole 4))) g.0.whole);
       extra = g.0.extra;
     }
 
@@ -497,14 +497,14 @@ set_does e l k x h =
     back : front5 e l ++ (cell 205 ++ (cell e.body ++ ((cell x ++ drop 2 e.rest) ++ tail_of e.is_voc k))) ≡ frame (with_does e x) l k
     back = (unfold front5 in sym (frame_split5 (with_does e x) l k))
 
-does-bytes : (e : Entry) (m : Stack) (x : ℕ) → 2 ≤ length e.rest
+does_bytes : (e : Entry) (m : Stack) (x : ℕ) → 2 ≤ length e.rest
     → set_cell (set_cell (framed e (image m)) (5 + length e.name) 205) (9 + length e.name) x ≡ framed (with_does e x) (image m)
 unfolding framed
-does-bytes e m x h = set_does e (cell_at (low_of m) (spot e)) (link_of (vocs_of m)) x h
+does_bytes e m x h = set_does e (cell_at (low_of m) (spot e)) (link_of (vocs_of m)) x h
 
-code-bytes : (e : Entry) (I : Image) → (at (framed e I) (5 + length e.name + 0) ≡ e.code % 256) × (at (framed e I) (5 + length e.name + 1) ≡ e.code / 256)
+code_bytes : (e : Entry) (I : Image) → (at (framed e I) (5 + length e.name + 0) ≡ e.code % 256) × (at (framed e I) (5 + length e.name + 1) ≡ e.code / 256)
 unfolding framed
-code-bytes e I = rw (frame_split5 e (cell_at I.low (spot e)) (link_of I.vocs))
+code_bytes e I = rw (frame_split5 e (cell_at I.low (spot e)) (link_of I.vocs))
     (at_after (front5 e l) more (5 + length e.name) 0 (length_front5 e l) ∙ (unfold cell in refl), at_after (front5 e l) more (5 + length e.name) 1 (length_front5 e l) ∙ (unfold cell in refl))
   where
     l : ℕ
@@ -536,9 +536,9 @@ go_does_top F D e m x c a = (shut (push f m), retop e f m refl refl long F D (ap
     first = unfold first_at in rw count-is (omega (arith, newest_top F D e m c, g.0.counted))
 
     code_is : cell_at D.low (first_at D.low D.newest - 2) ≡ e.code
-    code_is = cell-from D.low (first_at D.low D.newest - 2) e.code
-        (top_at F D e m c (first_at D.low D.newest - 2) (5 + length e.name + 0) (omega (arith, first)) ∙ (code-bytes e (image m)).0)
-        (top_at F D e m c (first_at D.low D.newest - 2 + 1) (5 + length e.name + 1) (omega (arith, first)) ∙ (code-bytes e (image m)).1)
+    code_is = cell_from D.low (first_at D.low D.newest - 2) e.code
+        (top_at F D e m c (first_at D.low D.newest - 2) (5 + length e.name + 0) (omega (arith, first)) ∙ (code_bytes e (image m)).0)
+        (top_at F D e m c (first_at D.low D.newest - 2 + 1) (5 + length e.name + 1) (omega (arith, first)) ∙ (code_bytes e (image m)).1)
 
     roomy : (2 ≤ length e.rest) × (e.is_voc ≡ false)
     roomy = g.0.extra (elim a.code [ inl y ↦ inl (sym code_is ∙ y) | inr y ↦ inr (sym code_is ∙ y) ])
@@ -557,7 +557,7 @@ go_does_top F D e m x c a = (shut (push f m), retop e f m refl refl long F D (ap
         ∙ (ap (λ z. set_cell z (first_at D.low D.newest + 2) x) (set_cell_right base' (framed e (image m)) (dp m) (first_at D.low D.newest - 2) 205 base-long (omega (arith, first)))
         ∙ (set_cell_right base' (set_cell (framed e (image m)) (first_at D.low D.newest - 2 - dp m) 205) (dp m) (first_at D.low D.newest + 2) x base-long (omega (arith, first))
         ∙ (ap₂ (λ i j. base' ++ set_cell (set_cell (framed e (image m)) i 205) j x) p₁ p₂
-        ∙ (ap (λ z. base' ++ z) (does-bytes e m x roomy.0) ∙ sym (low_push f m)))))
+        ∙ (ap (λ z. base' ++ z) (does_bytes e m x roomy.0) ∙ sym (low_push f m)))))
 
     framed-long : length (framed e (image m)) ≡ 9 + length e.name + length e.rest + cond e.is_voc 10 0
     framed-long = unfold framed in length_frame e (cell_at (low_of m) (spot e)) (link_of (vocs_of m))
@@ -568,15 +568,15 @@ go_does_top F D e m x c a = (shut (push f m), retop e f m refl refl long F D (ap
       thread_lt = g.0.thread_lt;
       counted = g.0.counted;
       room = same_room e f m refl refl long g.0.room;
-      whole = rw (← does-bytes e m x roomy.0) (set-bytes (set_cell (framed e (image m)) (5 + length e.name) 205) (9 + length e.name) x
+      whole = rw (← does_bytes e m x roomy.0) (set-bytes (set_cell (framed e (image m)) (5 + length e.name) 205) (9 + length e.name) x
           (rw (length-set_cell (framed e (image m)) (5 + length e.name) 205) (omega (arith, framed-long, roomy.0))) a.value
           (set-bytes (framed e (image m)) (5 + length e.name) 205 (omega (arith, framed-long)) (omega arith) g.0.whole));
       extra = λ y. (rw long roomy.0, roomy.1);
     }
 
 -- boot's own newest is no created word
-pub no_does-base : (F : ℕ) (D : Dict) (I : Image) (x : ℕ) → Shut F D (base I) → Doing x D → ⊥
-no_does-base F D I x c a = elim a.code [ inl y ↦ omega (arith, low) | inr y ↦ omega (arith, low) ]
+pub no_does_base : (F : ℕ) (D : Dict) (I : Image) (x : ℕ) → Shut F D (base I) → Doing x D → ⊥
+no_does_base F D I x c a = elim a.code [ inl y ↦ omega (arith, low) | inr y ↦ omega (arith, low) ]
   where
     newest_is : D.newest ≡ youngest I.vocs I.low
     newest_is = unfold newest_of in c.newest_is
@@ -590,18 +590,18 @@ no_does-base F D I x c a = elim a.code [ inl y ↦ omega (arith, low) | inr y �
 set-other-cell : (low : List ℕ) (i x a : ℕ) → a ≢ i → a + 1 ≢ i → cell_at (set low i x) a ≡ cell_at low a
 set-other-cell low i x a p q = cell_of_bytes (set low i x) low a (get_or-set_other low i a x 0 p) (get_or-set_other low i (a + 1) x 0 q)
 
-in-same : (low new : List ℕ) (v k : ℕ) → ((j : ℕ) → j < k → cell_at new (v + 2 * j) ≡ cell_at low (v + 2 * j)) → youngest_in v k new ≡ youngest_in v k low
+in_same : (low new : List ℕ) (v k : ℕ) → ((j : ℕ) → j < k → cell_at new (v + 2 * j) ≡ cell_at low (v + 2 * j)) → youngest_in v k new ≡ youngest_in v k low
 unfolding youngest_in
-in-same low new v zero h = refl
-in-same low new v (suc k) h = ap₂ max (h k (omega arith)) (in-same low new v k (λ j l. h j (omega arith)))
+in_same low new v zero h = refl
+in_same low new v (suc k) h = ap₂ max (h k (omega arith)) (in_same low new v k (λ j l. h j (omega arith)))
 
-forth-youngest : (low new : List ℕ) (vs : List ℕ) → vs ≡ 270 ∷ [] → ((j : ℕ) → j < 4 → cell_at new (270 + 2 * j) ≡ cell_at low (270 + 2 * j)) → youngest vs new ≡ youngest vs low
+forth_youngest : (low new : List ℕ) (vs : List ℕ) → vs ≡ 270 ∷ [] → ((j : ℕ) → j < 4 → cell_at new (270 + 2 * j) ≡ cell_at low (270 + 2 * j)) → youngest vs new ≡ youngest vs low
 unfolding youngest
-forth-youngest low new vs q h = rw q (ap (λ k. max k 0) (in-same low new 270 4 h))
+forth_youngest low new vs q h = rw q (ap (λ k. max k 0) (in_same low new 270 4 h))
 
-pub go_immediate-base : (F : ℕ) (D : Dict) (I : Image) → Shut F D (base I) → Goes F immediate D (shut (base I))
+pub go_immediate_base : (F : ℕ) (D : Dict) (I : Image) → Shut F D (base I) → Goes F immediate D (shut (base I))
 unfolding apply image newest_of fence
-go_immediate-base F D I c = (
+go_immediate_base F D I c = (
   shut (base J),
   record {
     low_is = rw (c.newest_is, c.low_is) refl;
@@ -613,12 +613,12 @@ go_immediate-base F D I c = (
     fence_is = length-set I.low i k ∙ c.fence_is;
     good = record {
       vocs_are = g.vocs_are;
-      ends = set-other-cell I.low i k 278 (omega (arith, g.newest-from)) (omega (arith, g.newest-from)) ∙ g.ends;
+      ends = set-other-cell I.low i k 278 (omega (arith, g.newest_from)) (omega (arith, g.newest_from)) ∙ g.ends;
       long = rw (length-set I.low i k) g.long;
       room = rw (length-set I.low i k) g.room;
-      heads = λ j l. rw (length-set I.low i k, set-other-cell I.low i k (270 + 2 * j) (omega (arith, g.newest-from)) (omega (arith, g.newest-from))) (g.heads j l);
-      whole = set-bytes_1 I.low i k (marked_byte (at I.low i) (g.whole i)) g.whole;
-      newest-from = rw young g.newest-from;
+      heads = λ j l. rw (length-set I.low i k, set-other-cell I.low i k (270 + 2 * j) (omega (arith, g.newest_from)) (omega (arith, g.newest_from))) (g.heads j l);
+      whole = set_bytes_1 I.low i k (marked_byte (at I.low i) (g.whole i)) g.whole;
+      newest_from = rw young g.newest_from;
       newest_to = rw (young, length-set I.low i k) g.newest_to;
       kernel = rw (young, first-same, set-other-cell I.low i k (first_at I.low y - 2) (omega (arith, first-from)) (omega (arith, first-from))) g.kernel;
     };
@@ -642,7 +642,7 @@ go_immediate-base F D I c = (
     J = record { low = set I.low i k; vocs = I.vocs }
 
     young : youngest I.vocs (set I.low i k) ≡ y
-    young = forth-youngest I.low (set I.low i k) I.vocs g.vocs_are (λ j l. set-other-cell I.low i k (270 + 2 * j) (omega (arith, g.newest-from)) (omega (arith, g.newest-from)))
+    young = forth_youngest I.low (set I.low i k) I.vocs g.vocs_are (λ j l. set-other-cell I.low i k (270 + 2 * j) (omega (arith, g.newest_from)) (omega (arith, g.newest_from)))
 
     first-same : first_at (set I.low i k) y ≡ first_at I.low y
     first-same = unfold first_at in ap (λ z. y + 5 + z) (ap (λ z. z % 32) (get_or-set_same I.low i k 0 (omega (arith, g.newest_to))) ∙ marked_same (at I.low i))
@@ -651,7 +651,7 @@ go_immediate-base F D I c = (
     first-from = unfold first_at in omega arith
 
     no-base : {e : Entry} {s : Stack} → Under (push e s) (base I) → ⊥
-    no-base u = under-base u
+    no-base u = under_base u
 
 pub go_allot : (F : ℕ) (D : Dict) (m : Stack) (h : ℕ) → Shut F D m → Goes F (allot h) D (shut m)
 unfolding apply
@@ -670,9 +670,9 @@ go_allot F D m h c = (
   λ s b x n. x,
 )
 
-pub go_seek-shut : (F : ℕ) (D : Dict) (m : Stack) (v : ℕ) → Shut F D m → Mem v (chain_of D) → Goes F (seek v) D (shut m)
+pub go_seek_shut : (F : ℕ) (D : Dict) (m : Stack) (v : ℕ) → Shut F D m → Mem v (chain_of D) → Goes F (seek v) D (shut m)
 unfolding apply
-go_seek-shut F D m v c h = (
+go_seek_shut F D m v c h = (
   shut m,
   record {
     low_is = c.low_is;
@@ -739,15 +739,15 @@ step F D (shut m) (make view count name code rest is_voc more) c a = go_make F D
 step F D (shut m) (append bs) c a = absurd (a.is_open c.open_is)
 step F D (shut m) (patch i y) c a = absurd (a.is_open c.open_is)
 step F D (shut m) semi c a = absurd (a c.open_is)
-step F D (shut (base I)) immediate c a = go_immediate-base F D I c
+step F D (shut (base I)) immediate c a = go_immediate_base F D I c
 step F D (shut (push e m)) immediate c a = go_immediate_top F D e m c
-step F D (shut (base I)) (does y) c a = absurd (no_does-base F D I y c a)
+step F D (shut (base I)) (does y) c a = absurd (no_does_base F D I y c a)
 step F D (shut (push e m)) (does y) c a = go_does_top F D e m y c a
 step F D (shut m) (allot h) c a = go_allot F D m h c
-step F D (shut m) (seek v) c a = go_seek-shut F D m v c a
+step F D (shut m) (seek v) c a = go_seek_shut F D m v c a
 step F D (shut m) definitions c a = go_definitions F D m c
 step F D (shut m) (forget w) c a = go_forget F D m w c a
-step F D (shut m) give_up c a = go_give_up-shut F D m c
+step F D (shut m) give_up c a = go_give_up_shut F D m c
 step F D (opened e m) (colon view count name) c a = not_open F D e m c a.shut
 step F D (opened e m) (make view count name code rest is_voc more) c a = not_open F D e m c a.shut
 step F D (opened e m) (append bs) c a = go_append F D e m bs c a

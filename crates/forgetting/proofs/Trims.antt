@@ -6,10 +6,10 @@ use Rattle.std.proofs.lemmas.Bool.{cases_eq, cases_lt, cases_order, lt-ltb, le-l
 use Rattle.image.specs.Cells.{at, cell_at, cell, set_cell, Bytes}
 use Rattle.forgetting.proofs.Raw.{link_of, fall, trim_voc, trim_vocs}
 use Rattle.forgetting.proofs.Stack.{Entry, Image, spot, tail_of, frame, framed, grow, Stack, base, push, image, Mem, Booted, Fits, Good, Under, here, there}
-use Rattle.forgetting.proofs.CellLaws.{length-set_cell, at_other, cell_same, cell_other, cell-left, cell_of_bytes, Apart, at_low, at_high, low_of_lem, high_of_lem}
+use Rattle.forgetting.proofs.CellLaws.{length-set_cell, at_other, cell_same, cell_other, cell_left, cell_of_bytes, Apart, at_low, at_high, low_of_lem, high_of_lem}
 use Rattle.forgetting.proofs.Spacing.{low_of, vocs_of, dp, heads_at, mem_image, dp_push, low_push, voc_room, vocs_apart, Spaced, tail_voc}
-use Rattle.forgetting.proofs.Kept.{good_under, dp-under, voc_under, push_left, push_right, at_after, link_is, cell-from, near, Head, mem_up}
-use Rattle.forgetting.proofs.Heads.{head_low, falls, fall_down, fall-step}
+use Rattle.forgetting.proofs.Kept.{good_under, dp_under, voc_under, push_left, push_right, at_after, link_is, cell_from, near, Head, mem_up}
+use Rattle.forgetting.proofs.Heads.{head_low, falls, fall_down, fall_step}
 
 byte_cases : (a p : ℕ) → (a ≡ p) ⊎ ((a ≡ p + 1) ⊎ ((a ≢ p) × (a ≢ p + 1)))
 byte_cases a p = elim (cases_eq a p) [
@@ -41,12 +41,12 @@ whole (push e m) g = rw (low_push e m) (append-bytes (set_cell (low_of m) (spot 
     g.0.whole)
 
 -- a walk reads nothing below w
-pub fall-agree : (n : ℕ) (low new : List ℕ) (w h : ℕ) → ((a : ℕ) → w ≤ a → at low a ≡ at new a) → fall n low w h ≡ fall n new w h
-fall-agree zero low new w h f = unfold fall in refl
-fall-agree (suc n) low new w h f = elim (cases_lt h w) [
+pub fall_agree : (n : ℕ) (low new : List ℕ) (w h : ℕ) → ((a : ℕ) → w ≤ a → at low a ≡ at new a) → fall n low w h ≡ fall n new w h
+fall_agree zero low new w h f = unfold fall in refl
+fall_agree (suc n) low new w h f = elim (cases_lt h w) [
   | inl x ↦ fall_down (suc n) low w h x ∙ sym (fall_down (suc n) new w h x)
-  | inr x ↦ fall-step n low w h x ∙ (ap (fall n low w) (cell_of_bytes low new h (f h x) (f (h + 1) (omega arith)))
-      ∙ (fall-agree n low new w (cell_at new h) f ∙ sym (fall-step n new w h x)))
+  | inr x ↦ fall_step n low w h x ∙ (ap (fall n low w) (cell_of_bytes low new h (f h x) (f (h + 1) (omega arith)))
+      ∙ (fall_agree n low new w (cell_at new h) f ∙ sym (fall_step n new w h x)))
 ]
 
 -- while M is trimmed to s: what is restored, and the bytes P that are still to do
@@ -87,7 +87,7 @@ going_step s M u g v k vs low h l f c = rw value record {
     room = omega (arith, voc_room s gs v h)
 
     inside : p + 1 < length low
-    inside = omega (arith, room, c.size, dp-under u)
+    inside = omega (arith, room, c.size, dp_under u)
 
     before : (a : ℕ) → Todo v k vs a → a < p
     before a (inl x) = omega (arith, x)
@@ -105,7 +105,7 @@ going_step s M u g v k vs low h l f c = rw value record {
     was = cell_of_bytes low (low_of M) p (c.todo p (inl (omega arith, omega arith))) (c.todo (p + 1) (inl (omega arith, omega arith)))
 
     value : fall (length low) low (dp s + 2) (cell_at low p) ≡ y
-    value = fall-agree (length low) low (low_of M) (dp s + 2) (cell_at low p) (λ a x. c.high a (omega arith))
+    value = fall_agree (length low) low (low_of M) (dp s + 2) (cell_at low p) (λ a x. c.high a (omega arith))
         ∙ (ap (fall (length low) (low_of M) (dp s + 2)) was
         ∙ falls M u here g v k h l (length low) (omega (arith, c.size, head_low M g v k (mem_up u v h) l)))
 
@@ -166,7 +166,7 @@ trims s M u g = ext_get_or 0 (take (dp s) low) (low_of s) long (λ i h. get_or-t
         record { size = refl; high = λ a x. refl; todo = λ a x. refl; done = near u g }
 
     long : length (take (dp s) low) ≡ dp s
-    long = length-take-le (dp s) low (omega (arith, end.size, dp-under u))
+    long = length-take-le (dp s) low (omega (arith, end.size, dp_under u))
 
     same : (i : ℕ) → i < dp s → at low i ≡ at (low_of s) i
     same i h = elim (end.done i h) [ inl x ↦ x | inr x ↦ absurd x.1 ]

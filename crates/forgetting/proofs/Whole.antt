@@ -5,10 +5,10 @@ use Rattle.forgetting.proofs.Stack.{Entry, Image, Stack, base, push, image, Mem,
 use Rattle.forgetting.proofs.Moves.{Dict, Move, colon, make, append, patch, semi, immediate, does, allot, seek, definitions, forget, give_up, apply, Allowed, Ends, chain_of, Finds}
 use Rattle.forgetting.proofs.Story.{Boots, Run, start, and_then, Keeps, still, and_still, Begin, Same, Forgotten}
 use Rattle.forgetting.proofs.Spacing.{low_of, vocs_of, dp, dp_push}
-use Rattle.forgetting.proofs.Kept.{dp-under}
+use Rattle.forgetting.proofs.Kept.{dp_under}
 use Rattle.forgetting.proofs.Chains.{On}
 use Rattle.forgetting.proofs.Shape.{Shut, Opened, Shape, shut, opened, Fit, Stand, Over}
-use Rattle.forgetting.proofs.Steps.{begin_stands, not_open, Goes, step, go_colon, go_make, chain_of_lem, forget-low, forget_top, forget_link}
+use Rattle.forgetting.proofs.Steps.{begin_stands, not_open, Goes, step, go_colon, go_make, chain_of_lem, forget_low, forget_top, forget_link}
 
 boot_fit : (Z : Dict) → Boots Z → Shut (length Z.low) Z (base (record { low = Z.low; vocs = 270 ∷ [] }))
 unfolding image newest_of fence link_of
@@ -33,19 +33,19 @@ keeps_fit F s b D E x f t (and_still {A = A} v r a n) =
     let g = keeps_fit F s b D A x f t r in
     let h = step F A g.0 v g.1 a in (h.0, h.1, h.2 s b g.2 n)
 
-begin-shut : (F : ℕ) (D : Dict) (v : Move) → Begin v → Allowed F v D → D.opened ≡ 0
-begin-shut F D (colon view count name) b a = a.shut
-begin-shut F D (make view count name code rest is_voc more) b a = a.shut
-begin-shut F D (append bs) b a = absurd b
-begin-shut F D (patch i x) b a = absurd b
-begin-shut F D semi b a = absurd b
-begin-shut F D immediate b a = absurd b
-begin-shut F D (does x) b a = absurd b
-begin-shut F D (allot h) b a = absurd b
-begin-shut F D (seek v) b a = absurd b
-begin-shut F D definitions b a = absurd b
-begin-shut F D (forget w) b a = absurd b
-begin-shut F D give_up b a = absurd b
+begin_shut : (F : ℕ) (D : Dict) (v : Move) → Begin v → Allowed F v D → D.opened ≡ 0
+begin_shut F D (colon view count name) b a = a.shut
+begin_shut F D (make view count name code rest is_voc more) b a = a.shut
+begin_shut F D (append bs) b a = absurd b
+begin_shut F D (patch i x) b a = absurd b
+begin_shut F D semi b a = absurd b
+begin_shut F D immediate b a = absurd b
+begin_shut F D (does x) b a = absurd b
+begin_shut F D (allot h) b a = absurd b
+begin_shut F D (seek v) b a = absurd b
+begin_shut F D definitions b a = absurd b
+begin_shut F D (forget w) b a = absurd b
+begin_shut F D give_up b a = absurd b
 
 finish : (F : ℕ) (D E : Dict) (m : Stack) (y : Shape) → Shut F D m → Fit F E y → Stand m D.here y → Finds F (dp m + 2) E → Same (apply (forget (dp m + 2)) E) D
 finish F D E m (opened e M) c f t q = not_open F E e M f q.shut
@@ -58,7 +58,7 @@ finish F D E m (shut M) c f t q = record {
 }
   where
     bytes : (apply (forget (dp m + 2)) E).low ≡ D.low
-    bytes = forget-low F E M m t.0 f t.1 ∙ sym c.low_is
+    bytes = forget_low F E M m t.0 f t.1 ∙ sym c.low_is
 
     link : (apply (forget (dp m + 2)) E).voc_link ≡ D.voc_link
     link = forget_link F E M m t.0 f t.1 ∙ sym c.link_is
@@ -73,7 +73,7 @@ forgotten Z D E v z r b a k f = go x.0 x.1
     x = run_fit Z D z r
 
     go : (y : Shape) → Fit F D y → Same (apply (forget (length D.low + 2)) E) D
-    go (opened e m) c = not_open F D e m c (begin-shut F D v b a)
+    go (opened e m) c = not_open F D e m c (begin_shut F D v b a)
     go (shut m) c =
         let n : length D.low ≡ dp m = ap length c.low_is in
         let s : (y : Shape) × Fit F (apply v D) y × Stand m D.here y = begin_stands F D m v c b a in
@@ -82,18 +82,18 @@ forgotten Z D E v z r b a k f = go x.0 x.1
 
 -- the order of addresses is the order of beginning: what is begun while the word over s stands lies above it,
 pub younger_above : (F : ℕ) (A : Dict) (M s : Stack) (b : ℕ) → Shut F A M → Stand s b (shut M) → dp s + 2 < length A.low + 2
-younger_above F A M s b c t = omega (arith, ap length c.low_is, dp-under t.1, dp_push t.0 s)
+younger_above F A M s b c t = omega (arith, ap length c.low_is, dp_under t.1, dp_push t.0 s)
 
 -- and what FORGET could find when it began lies below it
 pub older_below : (v y : ℕ) (m : Stack) → On v y m → y < dp m + 2
-older_below v y m o = omega (arith, o.3, dp-under o.2, dp_push o.0 o.1)
+older_below v y m o = omega (arith, o.3, dp_under o.2, dp_push o.0 o.1)
 
 -- trim at a standing word absorbs every move that does not end it
 pub absorbs : (F : ℕ) (D : Dict) (M N s : Stack) (b : ℕ) (v : Move) → Shut F D M → Over s b M → Shut F (apply v D) N → Over s b N
     → ((apply (forget (dp s + 2)) (apply v D)).low ≡ (apply (forget (dp s + 2)) D).low) × ((apply (forget (dp s + 2)) (apply v D)).voc_link ≡ (apply (forget (dp s + 2)) D).voc_link)
     × ((apply (forget (dp s + 2)) (apply v D)).here ≡ (apply (forget (dp s + 2)) D).here)
 absorbs F D M N s b v c t d u = (
-  forget-low F (apply v D) N s u.0 d u.1 ∙ sym (forget-low F D M s t.0 c t.1),
+  forget_low F (apply v D) N s u.0 d u.1 ∙ sym (forget_low F D M s t.0 c t.1),
   forget_link F (apply v D) N s u.0 d u.1 ∙ sym (forget_link F D M s t.0 c t.1),
   (forget_top F (apply v D) N s u.0 d u.1 ∙ u.2) ∙ sym (forget_top F D M s t.0 c t.1 ∙ t.2),
 )

@@ -9,7 +9,7 @@ use Rattle.image.specs.Cells.{cell}
 use Rattle.image.specs.Views.{low_of, high_of, line_of}
 use Rattle.image.specs.Writes.{overwritten}
 use Rattle.image.proofs.Overwriting.{take-before}
-use Rattle.image.proofs.Laws.{length_high, low-kept, line_kept, high_grown}
+use Rattle.image.proofs.Laws.{length_high, low_kept, line_kept, high_grown}
 use Rattle.definition.specs.declared.registers.Mark.{Mark}
 use Rattle.definition.specs.declared.registers.Seat.{Seat}
 use Rattle.definition.specs.declared.ranged.Registers.{Registers}
@@ -22,7 +22,7 @@ use Rattle.definition.specs.Stacks.{has_cells, nth, popped}
 use Rattle.definition.specs.Space.{do_space}
 use Rattle.steps.specs.Seats.{told_by, with_cell_depth}
 use Rattle.steps.specs.Does.{seen, acts, OnSpace}
-use Rattle.steps.proofs.Exits.{yes, no, refused-at, has_cells_lem, lacks_cells}
+use Rattle.steps.proofs.Exits.{yes, no, refused_at, has_cells_lem, lacks_cells}
 use Rattle.growing_words.specs.Numbers.{with_here}
 
 abbrev pub Acts : ℕ → ℕ → Type 0
@@ -36,14 +36,14 @@ pub comma_byte_acts : Acts 48 1
 unfolding perform
 comma_byte_acts again a m = refl
 
-appends-short : (n : ℕ) (m : Machine) → has_cells 1 m ≡ false → do_space (Kernel.appends n) m ≡ refused StackUnderflow m
-appends-short n m h = rw h
+appends_short : (n : ℕ) (m : Machine) → has_cells 1 m ≡ false → do_space (Kernel.appends n) m ≡ refused StackUnderflow m
+appends_short n m h = rw h
 
-appends-full : (n : ℕ) (m : Machine) → has_cells 1 m ≡ true → leb (here m + n) 65535 ≡ false → do_space (Kernel.appends n) m ≡ refused DataFull m
-appends-full n m h k = rw (h, k)
+appends_full : (n : ℕ) (m : Machine) → has_cells 1 m ≡ true → leb (here m + n) 65535 ≡ false → do_space (Kernel.appends n) m ≡ refused DataFull m
+appends_full n m h k = rw (h, k)
 
-appends-done : (n : ℕ) (m : Machine) → has_cells 1 m ≡ true → leb (here m + n) 65535 ≡ true → do_space (Kernel.appends n) m ≡ quietly (with_high (m.high ++ take n (cell (nth 0 m))) (popped 1 m))
-appends-done n m h k = rw (h, k)
+appends_done : (n : ℕ) (m : Machine) → has_cells 1 m ≡ true → leb (here m + n) 65535 ≡ true → do_space (Kernel.appends n) m ≡ quietly (with_high (m.high ++ take n (cell (nth 0 m))) (popped 1 m))
+appends_done n m h k = rw (h, k)
 
 abbrev pub deep : Registers → ℕ
 deep r = r.seat.depths.cells
@@ -72,22 +72,22 @@ module _ (r : Registers) (i c : List ℕ) (li : length i ≡ 65536) (lc : length
       omega (arith, r.space)
 
   pub short : (v n : ℕ) → Acts v n → (e : Fault) → deep r < 1 → e ≡ fault_of StackUnderflow (told_by r.seat) → OnSpace v r i c (Err e) r i c
-  short v n z e h p = λ again a t k s. refused-at (acts v again a) (seen r i c t k s) e StackUnderflow (z again a (seen r i c t k s) ∙ appends-short n (seen r i c t k s) (lacks_cells r i c t k s lc 1 h)) p
+  short v n z e h p = λ again a t k s. refused_at (acts v again a) (seen r i c t k s) e StackUnderflow (z again a (seen r i c t k s) ∙ appends_short n (seen r i c t k s) (lacks_cells r i c t k s lc 1 h)) p
 
   pub full : (v n : ℕ) → Acts v n → (e : Fault) → 1 ≤ deep r → 65535 < end r + n → e ≡ fault_of DataFull (told_by r.seat) → OnSpace v r i c (Err e) r i c
-  full v n z e h b p = λ again a t k s. refused-at (acts v again a) (seen r i c t k s) e DataFull (z again a (seen r i c t k s) ∙ appends-full n (seen r i c t k s) (has_cells_lem r i c t k s lc 1 h) (ap (λ d. leb (d + n) 65535) (here_is t k s) ∙ no (end r + n) 65535 b)) p
+  full v n z e h b p = λ again a t k s. refused_at (acts v again a) (seen r i c t k s) e DataFull (z again a (seen r i c t k s) ∙ appends_full n (seen r i c t k s) (has_cells_lem r i c t k s lc 1 h) (ap (λ d. leb (d + n) 65535) (here_is t k s) ∙ no (end r + n) 65535 b)) p
 
   pub done : (v n : ℕ) → Acts v n → (r1 r2 : Registers) (i' : List ℕ) (new : List ℕ) → 1 ≤ deep r → end r + n ≤ 65535 → length new ≡ n → new ≡ take n (cell (get_or (stack_of (deep r) c) 0 0)) → i' ≡ overwritten (end r) new i → r1.shared ≡ with_here (end r + n) r.shared → r1.seat ≡ r.seat → r2.shared ≡ r1.shared → r2.seat ≡ with_cell_depth (deep r1 - 1) r1.seat → stack_of (deep r1 - 1) c ≡ drop 1 (stack_of (deep r1) c) → OnSpace v r i c (Ok tt) r2 i' c × (take 256 i' ≡ take 256 i)
   done v n z r1 r2 i' new h b ln nw e u1 w1 u2 w2 st =
       let f : end r + length new ≤ length i = omega (arith, ln) in
-      let lo : low_of r.shared.ends.dp i' ≡ low_of r.shared.ends.dp i = ap (low_of r.shared.ends.dp) e ∙ low-kept (end r) new i f r.shared.ends.dp (omega (arith, r.top, r.space)) in
+      let lo : low_of r.shared.ends.dp i' ≡ low_of r.shared.ends.dp i = ap (low_of r.shared.ends.dp) e ∙ low_kept (end r) new i f r.shared.ends.dp (omega (arith, r.top, r.space)) in
       let ne : line_of i' ≡ line_of i = ap line_of e ∙ line_kept (end r) new i f (omega (arith, r.space)) in
       let hi : high_of (end r + n) i' ≡ high_of (end r) i ++ take n (cell (get_or (stack_of (deep r) c) 0 0)) = ap (λ y. high_of (end r + y) i') (sym ln) ∙ ap (high_of (end r + length new)) e ∙ high_grown (end r) new i f (omega (arith, r.space)) ∙ ap (λ (y : List ℕ). high_of (end r) i ++ y) nw in
       let se : r2.seat ≡ with_cell_depth (deep r - 1) r.seat = w2 ∙ ap (λ (y : Seat). with_cell_depth (y.depths.cells - 1) y) w1 in
       let dn : deep r1 ≡ deep r = ap (λ (y : Seat). y.depths.cells) w1 in
       let ce : stack_of (deep r - 1) c ≡ drop 1 (stack_of (deep r) c) = ap (λ y. stack_of (y - 1) c) (sym dn) ∙ st ∙ ap (λ y. drop 1 (stack_of y c)) dn in (
         (λ again a t k s.
-            z again a (seen r i c t k s) ∙ appends-done n (seen r i c t k s) (has_cells_lem r i c t k s lc 1 h) (ap (λ d. leb (d + n) 65535) (here_is t k s) ∙ yes (end r + n) 65535 b)
+            z again a (seen r i c t k s) ∙ appends_done n (seen r i c t k s) (has_cells_lem r i c t k s lc 1 h) (ap (λ d. leb (d + n) 65535) (here_is t k s) ∙ yes (end r + n) 65535 b)
             ∙ ap quietly (sym (ap (λ y. view_of y r2.seat (lent i' c t k) s) (u2 ∙ u1)
             ∙ ap (λ y. view_of (with_here (end r + n) r.shared) y (lent i' c t k) s) se
             ∙ ap (λ y. built r t k s y (high_of (end r + n) i') (line_of i') (stack_of (deep r - 1) c)) lo
@@ -102,9 +102,9 @@ pub whole : (x : ℕ) → cell x ≡ take 2 (cell x)
 unfolding cell
 whole x = refl
 
-pub two-long : (x : ℕ) → length (cell x) ≡ 2
+pub two_long : (x : ℕ) → length (cell x) ≡ 2
 unfolding cell
-two-long x = refl
+two_long x = refl
 
 pub low : (x y : ℕ) → x ≡ y % 256 → replicate 1 x ≡ take 1 (cell y)
 unfolding cell

@@ -3,12 +3,12 @@ use Rattle.std.proofs.Common.{◌≡◌, ℕ, zero, suc, ◌+◌, ◌-◌, ◌<�
 use Rattle.std.proofs.lemmas.List.{length-set, get_or-set_same, get_or-set_other}
 use Rattle.image.specs.Writes.{overwritten, moved_up, Moved}
 use Rattle.image.specs.Views.{low_of, line_of, high_of, MovedInViews}
-use Rattle.image.proofs.Overwriting.{overwritten-none, overwritten_more}
-use Rattle.image.proofs.Laws.{low-kept, high-within, line_kept, get_or-high, length_high}
+use Rattle.image.proofs.Overwriting.{overwritten_none, overwritten_more}
+use Rattle.image.proofs.Laws.{low_kept, high_within, line_kept, get_or_high, length_high}
 
 -- one byte set is one byte overwritten
 pub overwritten_byte : (a : ℕ) (xs : List ℕ) (v : ℕ) → a < length xs → set xs a v ≡ overwritten a (v ∷ []) xs
-overwritten_byte a xs v h = ap (λ (p : List ℕ). set p a v) (sym (overwritten-none a xs)) ∙ overwritten_more a [] xs a v (omega arith) h
+overwritten_byte a xs v h = ap (λ (p : List ℕ). set p a v) (sym (overwritten_none a xs)) ∙ overwritten_more a [] xs a v (omega arith) h
 
 pub length_moved : (n from to : ℕ) (xs : List ℕ) → length (moved_up n from to xs) ≡ length xs
 unfolding moved_up
@@ -67,7 +67,7 @@ low_moved (suc n) from to dp xs h b =
     let s : to + n < length (moved_up n from to xs) = omega (arith, length_moved n from to xs) in
     let v = get_or (moved_up n from to xs) (from + n) 0 in
     ap (low_of dp) (overwritten_byte (to + n) (moved_up n from to xs) v s)
-    ∙ low-kept (to + n) (v ∷ []) (moved_up n from to xs) (omega arith) dp (omega arith)
+    ∙ low_kept (to + n) (v ∷ []) (moved_up n from to xs) (omega arith) dp (omega arith)
     ∙ low_moved n from to dp xs (omega arith) b
 
 pub line_moved : (n from to : ℕ) (xs : List ℕ) → to + n ≤ length xs → 256 ≤ to → line_of (moved_up n from to xs) ≡ line_of xs
@@ -89,12 +89,12 @@ high_moved (suc n) from to here xs b h c k l =
     let e : from + n - 32768 ≡ from - 32768 + n = omega arith in
     let f : to + n - 32768 ≡ to - 32768 + n = omega arith in
     let r = high_moved n from to here xs b (omega arith) c (omega arith) l in
-    let g = get_or-high here (moved_up n from to xs) (from + n) (omega arith) (omega arith) in
+    let g = get_or_high here (moved_up n from to xs) (from + n) (omega arith) (omega arith) in
     let s : to + n - 32768 < length (high_of here (moved_up n from to xs)) = omega (arith, length_high here (moved_up n from to xs) (omega arith)) in
     let w : v ≡ get_or (moved_up n (from - 32768) (to - 32768) (high_of here xs)) (from - 32768 + n) 0 =
     sym g ∙ ap (λ (p : List ℕ). get_or p (from + n - 32768) 0) r ∙ ap (λ i. get_or (moved_up n (from - 32768) (to - 32768) (high_of here xs)) i 0) e in
     ap (high_of here) (overwritten_byte (to + n) (moved_up n from to xs) v (omega arith))
-    ∙ high-within (to + n) (v ∷ []) (moved_up n from to xs) (omega arith) here (omega arith) (omega arith) (omega arith)
+    ∙ high_within (to + n) (v ∷ []) (moved_up n from to xs) (omega arith) here (omega arith) (omega arith) (omega arith)
     ∙ sym (overwritten_byte (to + n - 32768) (high_of here (moved_up n from to xs)) v s)
     ∙ ap (λ i. set (high_of here (moved_up n from to xs)) i v) f
     ∙ ap (λ (p : List ℕ). set p (to - 32768 + n) v) r
@@ -102,7 +102,7 @@ high_moved (suc n) from to here xs b h c k l =
 
 pub moved_views : (n from to : ℕ) (xs image : List ℕ) → to + n ≤ length xs → image ≡ moved_up n from to xs → MovedInViews n from to xs image
 moved_views n from to xs image h e = record {
-  low-kept = λ dp b. ap (low_of dp) e ∙ low_moved n from to dp xs h b;
-  high-within = λ here b u c k l. ap (high_of here) e ∙ high_moved n from to here xs b u c k l;
+  low_kept = λ dp b. ap (low_of dp) e ∙ low_moved n from to dp xs h b;
+  high_within = λ here b u c k l. ap (high_of here) e ∙ high_moved n from to here xs b u c k l;
   line_kept = λ b. ap line_of e ∙ line_moved n from to xs h b;
 }

@@ -32,8 +32,8 @@ pub take_upto : (a : ℕ) (new xs : List ℕ) → a ≤ length xs → take (a + 
 take_upto a new xs l =
     ap (take (a + length new)) (split a new xs) ∙ take_at (take a xs ++ new) (drop (a + length new) xs) (a + length new) (front a new xs l)
 
-pub drop-behind : (n a : ℕ) (new xs : List ℕ) → a + length new ≤ n → a ≤ length xs → drop n (overwritten a new xs) ≡ drop n xs
-drop-behind n a new xs h l =
+pub drop_behind : (n a : ℕ) (new xs : List ℕ) → a + length new ≤ n → a ≤ length xs → drop n (overwritten a new xs) ≡ drop n xs
+drop_behind n a new xs h l =
     let e : a + length new + (n - (a + length new)) ≡ n = omega arith in
     let d = ap (drop (a + length new)) (split a new xs) ∙ drop_at (take a xs ++ new) (drop (a + length new) xs) (a + length new) (front a new xs l) in
     ap (λ i. drop i (overwritten a new xs)) (sym e)
@@ -59,9 +59,9 @@ take_within n a new xs h l =
     ∙ take_at (overwritten a new (take n xs)) (drop n xs) n (length-overwritten a new (take n xs) s ∙ length-take-le n xs l)
 
 -- the part from n on, which holds them
-pub drop-within : (n a : ℕ) (new xs : List ℕ) → n ≤ a → a ≤ length xs → drop n (overwritten a new xs) ≡ overwritten (a - n) new (drop n xs)
+pub drop_within : (n a : ℕ) (new xs : List ℕ) → n ≤ a → a ≤ length xs → drop n (overwritten a new xs) ≡ overwritten (a - n) new (drop n xs)
 unfolding overwritten
-drop-within n a new xs h l =
+drop_within n a new xs h l =
     let s : n ≤ length (take a xs) = simp length-take (omega arith) in
     let e : n + (a - n) ≡ a = omega arith in
     let f : n + (a - n + length new) ≡ a + length new = omega arith in
@@ -82,9 +82,9 @@ behind_front n a new ps xs l h =
     ∙ append_assoc ps (take (a - n) xs) (new ++ drop (a - n + length new) xs)
 
 -- ONE BYTE MORE
-pub overwritten-none : (a : ℕ) (xs : List ℕ) → overwritten a [] xs ≡ xs
+pub overwritten_none : (a : ℕ) (xs : List ℕ) → overwritten a [] xs ≡ xs
 unfolding overwritten
-overwritten-none a xs = let e : a + 0 ≡ a = omega arith in ap (λ i. take a xs ++ drop i xs) e ∙ take-append-drop a xs
+overwritten_none a xs = let e : a + 0 ≡ a = omega arith in ap (λ i. take a xs ++ drop i xs) e ∙ take-append-drop a xs
 
 pub overwritten_more : (a : ℕ) (new xs : List ℕ) (i v : ℕ) → i ≡ a + length new → i < length xs → set (overwritten a new xs) i v ≡ overwritten a (new ++ v ∷ []) xs
 unfolding overwritten
@@ -98,11 +98,11 @@ overwritten_more a new xs i v e h =
     ∙ ap (λ (p : List ℕ). take a xs ++ p) (sym (append_assoc new (v ∷ []) (drop (a + length (new ++ v ∷ [])) xs)))
 
 -- a cell written byte by byte
-pub overwritten-cell : (a : ℕ) (xs : List ℕ) (x : ℕ) → a + 1 < length xs → set_cell xs a x ≡ overwritten a (cell x) xs
+pub overwritten_cell : (a : ℕ) (xs : List ℕ) (x : ℕ) → a + 1 < length xs → set_cell xs a x ≡ overwritten a (cell x) xs
 unfolding set_cell cell
-overwritten-cell a xs x h =
+overwritten_cell a xs x h =
     let one : set xs a (x % 256) ≡ overwritten a (x % 256 ∷ []) xs =
-    ap (λ (p : List ℕ). set p a (x % 256)) (sym (overwritten-none a xs)) ∙ overwritten_more a [] xs a (x % 256) (omega arith) (omega arith) in
+    ap (λ (p : List ℕ). set p a (x % 256)) (sym (overwritten_none a xs)) ∙ overwritten_more a [] xs a (x % 256) (omega arith) (omega arith) in
     ap (λ (p : List ℕ). set p (a + 1) (x / 256)) one ∙ overwritten_more a (x % 256 ∷ []) xs (a + 1) (x / 256) refl h
 
 -- a part that was written through a borrow

@@ -113,13 +113,13 @@ loading_end table at k start dp D final l h =
     sym (l.goes ∙ (ap (λ x. with_kernel k (rows_in l.fuel x) D) (drop_all at table h) ∙ (ap (λ x. with_kernel k x D) (rows_nil l.fuel) ∙ kernel_nil k D)))
 
 -- FORTH's entry written
-low-none : (image : List ℕ) → low_of 256 image ≡ zeros 256
+low_none : (image : List ℕ) → low_of 256 image ≡ zeros 256
 unfolding low_of
-low-none image = ap (λ (s : List ℕ). zeros 256 ++ s) (drop_all 256 (take 256 image) (simp length-take (omega arith))) ∙ append-nil (zeros 256)
+low_none image = ap (λ (s : List ℕ). zeros 256 ++ s) (drop_all 256 (take 256 image) (simp length-take (omega arith))) ∙ append-nil (zeros 256)
 
-pub forth-low : (image bytes : List ℕ) → bytes ≡ 0 ∷ 0 ∷ 0 ∷ 0 ∷ 133 ∷ 70 ∷ 79 ∷ 82 ∷ 84 ∷ 200 ∷ 204 ∷ 0 ∷ 0 ∷ 133 ∷ 0 ∷ 0 ∷ 0 ∷ 0 ∷ 2 ∷ 1 ∷ 0 ∷ 0 ∷ 0 ∷ 0 ∷ [] → low_of 256 image ++ bytes ≡ forth_alone.low
+pub forth_low : (image bytes : List ℕ) → bytes ≡ 0 ∷ 0 ∷ 0 ∷ 0 ∷ 133 ∷ 70 ∷ 79 ∷ 82 ∷ 84 ∷ 200 ∷ 204 ∷ 0 ∷ 0 ∷ 133 ∷ 0 ∷ 0 ∷ 0 ∷ 0 ∷ 2 ∷ 1 ∷ 0 ∷ 0 ∷ 0 ∷ 0 ∷ [] → low_of 256 image ++ bytes ≡ forth_alone.low
 unfolding forth_alone entry_bytes cell set_cell
-forth-low image bytes e = ap (λ (s : List ℕ). s ++ bytes) (low-none image) ∙ ap (λ (s : List ℕ). zeros 256 ++ s) e
+forth_low image bytes e = ap (λ (s : List ℕ). s ++ bytes) (low_none image) ∙ ap (λ (s : List ℕ). zeros 256 ++ s) e
 
 -- an entry that has space is made
 pub fits : (n : ℕ) (told : Place) (D X E : Dict) (r : Result (Unit {0}) Fault) → Did (with_room n told D X) D r E → length D.low + n ≤ 32768 → (is_ok r ≡ true) × (E ≡ X)

@@ -10,18 +10,18 @@ all_blank_lem (b ∷ bs) h =
     let first : eqb b 32 ≡ true = eq-eqb b 32 (h 0 (omega arith)) in
     rw first (all_blank_lem bs (λ k l. h (suc k) (omega arith)))
 
-one-not-blank : (bytes : List ℕ) (k : ℕ) → k < length bytes → (get_or bytes k 0 ≡ 32 → ⊥) → all_blank bytes ≡ false
+one_not_blank : (bytes : List ℕ) (k : ℕ) → k < length bytes → (get_or bytes k 0 ≡ 32 → ⊥) → all_blank bytes ≡ false
 unfolding all_blank
-one-not-blank [] k l n = absurd (omega arith)
-one-not-blank (b ∷ bs) zero l n = let e : eqb b 32 ≡ false = grind (arith, nat_tests) in rw e
-one-not-blank (b ∷ bs) (suc k) l n =
-    let r = one-not-blank bs k (omega arith) n in
+one_not_blank [] k l n = absurd (omega arith)
+one_not_blank (b ∷ bs) zero l n = let e : eqb b 32 ≡ false = grind (arith, nat_tests) in rw e
+one_not_blank (b ∷ bs) (suc k) l n =
+    let r = one_not_blank bs k (omega arith) n in
     elim (eqb b 32) as (λ v. v && all_blank bs ≡ false) [ true ↦ r | false ↦ refl ]
 
 pub used_if_cut : (bytes : List ℕ) (n : ℕ) → CutTo bytes n → ltb 0 n ≡ not (all_blank bytes)
 used_if_cut bytes zero h = sym (ap not (all_blank_lem bytes (λ k l. h.blank k (omega arith) l)))
 used_if_cut bytes (suc n) h =
-    let r = one-not-blank bytes n (omega (arith, h.within)) (h.last n (omega arith)) in
+    let r = one_not_blank bytes n (omega (arith, h.within)) (h.last n (omega arith)) in
     let t : ltb 0 (suc n) ≡ true = grind (arith, nat_tests) in
     t ∙ sym (ap not r)
 

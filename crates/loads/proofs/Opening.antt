@@ -22,16 +22,16 @@ use Rattle.definition.specs.Blocks.{do_blocks}
 use Rattle.definition.specs.Step.{finished, outcome, ended}
 use Rattle.steps.specs.Seats.{told_by, with_cell_depth}
 use Rattle.steps.specs.Does.{seen, acts, OnCells}
-use Rattle.steps.proofs.Exits.{refused-at, has_cells_lem, lacks_cells}
+use Rattle.steps.proofs.Exits.{refused_at, has_cells_lem, lacks_cells}
 use Rattle.loads.specs.Reading.{loadable, from}
 
 -- no word is left
-pub ended-none : (r : Registers) → r.seat.loads.count ≡ 0 → (i c t : List ℕ) (k : List Mark) (s : Meaning) → ended (loads_of r.seat.loads) (seen r i c t k s) ≡ finished (seen r i c t k s)
+pub ended_none : (r : Registers) → r.seat.loads.count ≡ 0 → (i c t : List ℕ) (k : List Mark) (s : Meaning) → ended (loads_of r.seat.loads) (seen r i c t k s) ≡ finished (seen r i c t k s)
 unfolding stack_of
-ended-none r e i c t k s = ap (λ (n : ℕ). ended (stack_of n (eight r.seat.loads)) (seen r i c t k s)) e
+ended_none r e i c t k s = ap (λ (n : ℕ). ended (stack_of n (eight r.seat.loads)) (seen r i c t k s)) e
 
-pub ended-one : (r : Registers) (l : Loads) (x : Position) → loads_of r.seat.loads ≡ x ∷ loads_of l → (i c t : List ℕ) (k : List Mark) (s : Meaning) → ended (loads_of r.seat.loads) (seen r i c t k s) ≡ outcome (quietly (view_of r.shared (from x l r.seat) (lent i c t k) s))
-ended-one r l x e i c t k s = ap (λ (ls : List Position). ended ls (seen r i c t k s)) e
+pub ended_one : (r : Registers) (l : Loads) (x : Position) → loads_of r.seat.loads ≡ x ∷ loads_of l → (i c t : List ℕ) (k : List Mark) (s : Meaning) → ended (loads_of r.seat.loads) (seen r i c t k s) ≡ outcome (quietly (view_of r.shared (from x l r.seat) (lent i c t k) s))
+ended_one r l x e i c t k s = ap (λ (ls : List Position). ended ls (seen r i c t k s)) e
 
 -- LOAD
 load_acts : (again : ℕ → Machine → Asked After) (a : Argument) (m : Machine) → acts 58 again a m ≡ do_blocks Kernel.load m
@@ -61,12 +61,12 @@ module _ (r : Registers) (c : List ℕ) (lc : length c ≡ 128) where
   count-is = length_stack r.seat.loads.count (eight r.seat.loads) r.loads
 
   pub short : (e : Fault) → deep r < 1 → e ≡ fault_of StackUnderflow (told_by r.seat) → OnCells 58 r c (Err e) r c
-  short e h p = λ again a i t k s li. refused-at (acts 58 again a) (seen r i c t k s) e StackUnderflow (load_acts again a (seen r i c t k s) ∙ load_short (seen r i c t k s) (lacks_cells r i c t k s lc 1 h)) p
+  short e h p = λ again a i t k s li. refused_at (acts 58 again a) (seen r i c t k s) e StackUnderflow (load_acts again a (seen r i c t k s) ∙ load_short (seen r i c t k s) (lacks_cells r i c t k s lc 1 h)) p
 
   pub bad : (b : ℕ) (e : Fault) → 1 ≤ deep r → b ≡ top → loadable b r.seat.loads.count ≡ false → e ≡ fault_of BadLoad (told_by r.seat) → OnCells 58 r c (Err e) r c
   bad b e h q g p = λ again a i t k s li.
       let m = seen r i c t k s in
-      refused-at (acts 58 again a) m e BadLoad
+      refused_at (acts 58 again a) m e BadLoad
       (load_acts again a m ∙ load_bad m (has_cells_lem r i c t k s lc 1 h) (ap (λ y. not (eqb top 0) && ltb y 8) count-is ∙ ap (λ y. loadable y r.seat.loads.count) (sym q) ∙ g)) p
 
   pub done : (r1 r2 : Registers) (b : ℕ) → 1 ≤ deep r → b ≡ top → loadable b r.seat.loads.count ≡ true → r1.shared ≡ r.shared → r1.seat ≡ from (at b) r1.seat.loads r.seat → loads_of r1.seat.loads ≡ r.seat.source.position ∷ loads_of r.seat.loads → r2.shared ≡ r1.shared → r2.seat ≡ with_cell_depth (deep r1 - 1) r1.seat → stack_of (deep r1 - 1) c ≡ drop 1 (stack_of (deep r1) c) → OnCells 58 r c (Ok tt) r2 c

@@ -18,8 +18,8 @@ pub magnitude_le : (n : ℕ) → n < 65536 → magnitude n ≤ 32768
 magnitude_le n h = grind (arith, nat_tests)
 
 -- a cell's signed number has its sign and size
-pub signed-whole : (n : ℕ) → n < 65536 → signed_value n ≡ whole (is_negative n) (magnitude n)
-signed-whole n h =
+pub signed_whole : (n : ℕ) → n < 65536 → signed_value n ≡ whole (is_negative n) (magnitude n)
+signed_whole n h =
     ⊎_elim (λ y. rw y.0 (omega (arith, ints))) (λ y. rw y.0 refl) (leb_tells 32768 n)
 
 -- the cell of a sign and a size holds that integer
@@ -27,9 +27,9 @@ cell_below : (n : ℕ) → n ≤ 32768 → signed_value (cell_of true n) ≡ neg
 cell_below n h =
     ⊎_elim (λ y. rw y.0 (omega (arith, ints))) (λ y. rw y.0 (omega (arith, ints))) (leb_tells 32768 (cell_of true n))
 
-cell-whole : (t : Bool) (n : ℕ) → n ≤ 32767 → signed_value (cell_of t n) ≡ whole t n
-cell-whole true n h = cell_below n (omega arith)
-cell-whole false n h =
+cell_whole : (t : Bool) (n : ℕ) → n ≤ 32767 → signed_value (cell_of t n) ≡ whole t n
+cell_whole true n h = cell_below n (omega arith)
+cell_whole false n h =
     ⊎_elim (λ y. rw y.0 (omega (arith, ints))) (λ y. rw y.0 (omega (arith, ints))) (leb_tells 32768 (cell_of false n))
 
 times_negated : (q b : ℤ) → q *ℤ neg_ℤ b ≡ neg_ℤ (q *ℤ b)
@@ -70,8 +70,8 @@ rounded_up_lem m n h =
     (omega arith, omega arith)
 
 -- of numbers on two sides it is not above 0
-other-side : (t : Bool) (m n : ℕ) → 0 < n → IsFloored (whole (not t) m) (whole t n) (whole true (rounded_up m n)) (whole t (rounded_up m n * n - m))
-other-side t m n h = by t
+other_side : (t : Bool) (m n : ℕ) → 0 < n → IsFloored (whole (not t) m) (whole t n) (whole true (rounded_up m n)) (whole t (rounded_up m n * n - m))
+other_side t m n h = by t
   where
     plain : IsFloored (neg_ℤ (pos m)) (pos n) (neg_ℤ (pos (rounded_up m n))) (pos (rounded_up m n * n - m))
     plain =
@@ -90,19 +90,19 @@ between : (a q r : ℤ) (n : ℕ) → IsFloored a (pos n) q r → (pos 0 ≤ℤ 
 between a q r n f = ⊎_elim (λ s. s) (λ s. absurd (omega (arith, ints, s.0, s.1))) f.side
 
 -- a quotient in a cell bounds the dividend
-not-above : (a q r : ℤ) (n : ℕ) → IsFloored a (pos n) q r → q ≤ℤ pos 32767 → a <ℤ pos (32768 * n)
-not-above a (pos k) r n f h =
+not_above : (a q r : ℤ) (n : ℕ) → IsFloored a (pos n) q r → q ≤ℤ pos 32767 → a <ℤ pos (32768 * n)
+not_above a (pos k) r n f h =
     let s = between _ _ _ _ f in
     omega (arith, ints, s.0, s.1, f.whole, mul-le k n 32767 n (omega (arith, ints)) (omega arith))
-not-above a (negsuc k) r n f h =
+not_above a (negsuc k) r n f h =
     let s = between _ _ _ _ f in
     omega (arith, ints, s.0, s.1, f.whole)
 
-not-below : (a q r : ℤ) (n : ℕ) → IsFloored a (pos n) q r → negsuc 32767 ≤ℤ q → neg_ℤ (pos (32768 * n)) ≤ℤ a
-not-below a (pos k) r n f h =
+not_below : (a q r : ℤ) (n : ℕ) → IsFloored a (pos n) q r → negsuc 32767 ≤ℤ q → neg_ℤ (pos (32768 * n)) ≤ℤ a
+not_below a (pos k) r n f h =
     let s = between _ _ _ _ f in
     omega (arith, ints, s.0, s.1, f.whole)
-not-below a (negsuc k) r n f h =
+not_below a (negsuc k) r n f h =
     let s = between _ _ _ _ f in
     omega (arith, ints, s.0, s.1, f.whole, mul-le (suc k) n 32768 n (omega (arith, ints)) (omega arith))
 
@@ -120,7 +120,7 @@ none_same t m n h big q r f k = by t f
   where
     plain : (r : ℤ) → IsFloored (pos m) (pos n) q r → ⊥
     plain r f =
-        omega (arith, ints, not-above _ _ _ _ f k.1, mul-le 32768 n (m / n) n (omega arith) (omega arith), div-mul-le_self m n)
+        omega (arith, ints, not_above _ _ _ _ f k.1, mul-le 32768 n (m / n) n (omega arith) (omega arith), div-mul-le_self m n)
 
     by : (t : Bool) → IsFloored (whole t m) (whole t n) q r → ⊥
     by false f = plain r f
@@ -131,7 +131,7 @@ none_other t m n h big q r f k = by t f
   where
     plain : (r : ℤ) → IsFloored (neg_ℤ (pos m)) (pos n) q r → ⊥
     plain r f =
-        omega (arith, ints, not-below _ _ _ _ f k.0, mul-le 32769 n (rounded_up m n) n (omega arith) (omega arith), (rounded_up_lem m n h).1)
+        omega (arith, ints, not_below _ _ _ _ f k.0, mul-le 32769 n (rounded_up m n) n (omega arith) (omega arith), (rounded_up_lem m n h).1)
 
     by : (t : Bool) → IsFloored (whole (not t) m) (whole t n) q r → ⊥
     by false f = plain r f
@@ -153,7 +153,7 @@ module _ (m : ℕ) (t : Bool) (n : ℕ) (low : 0 < n) (high : n ≤ 32768) where
       let small = mod-lt m low in
       rw (some, same_beq t)
       (⊎_elim
-      (λ y. rw y.0 (from _ _ _ _ _ _ _ _ refl refl (sym (cell-whole false (m / n) y.1)) (sym (cell-whole t (m % n) (omega arith))) (same_side_lem t m n low)))
+      (λ y. rw y.0 (from _ _ _ _ _ _ _ _ refl refl (sym (cell_whole false (m / n) y.1)) (sym (cell_whole t (m % n) (omega arith))) (same_side_lem t m n low)))
       (λ y. rw y.0 (λ q r. none_same t m n low y.1 q r))
       (leb_tells (m / n) 32767))
 
@@ -162,7 +162,7 @@ module _ (m : ℕ) (t : Bool) (n : ℕ) (low : 0 < n) (high : n ≤ 32768) where
       let bounds = rounded_up_lem m n low in
       rw (some, other_beq t)
       (⊎_elim
-      (λ y. rw y.0 (from _ _ _ _ _ _ _ _ refl refl (sym (cell_below (rounded_up m n) y.1)) (sym (cell-whole t (rounded_up m n * n - m) (omega (arith, bounds.1)))) (other-side t m n low)))
+      (λ y. rw y.0 (from _ _ _ _ _ _ _ _ refl refl (sym (cell_below (rounded_up m n) y.1)) (sym (cell_whole t (rounded_up m n * n - m) (omega (arith, bounds.1)))) (other_side t m n low)))
       (λ y. rw y.0 (λ q r. none_other t m n low y.1 q r))
       (leb_tells (rounded_up m n) 32768))
 
@@ -191,12 +191,12 @@ pub cells : (a b : ℕ) → a < 65536 → b < 65536 → Divides (signed_value a)
 cells a b h k =
     let P : ℤ → Type 0 = λ z. Divides z (signed_value b) (answered (floored (signed a) (signed b))) in
     let Q : ℤ → Type 0 = λ z. Divides (whole (is_negative a) (magnitude a)) z (answered (floored (signed a) (signed b))) in
-    subst P (sym (signed-whole a h)) (subst Q (sym (signed-whole b k)) (divides (is_negative a) (magnitude a) (is_negative b) (magnitude b) (magnitude_le b k)))
+    subst P (sym (signed_whole a h)) (subst Q (sym (signed_whole b k)) (divides (is_negative a) (magnitude a) (is_negative b) (magnitude b) (magnitude_le b k)))
 
 pub products : (a b d : ℕ) → a < 65536 → b < 65536 → d < 65536 → Divides (signed_value a *ℤ signed_value b) (signed_value d) (answered (floored (product a b) (signed d)))
 products a b d h k l =
     let e : signed_value a *ℤ signed_value b ≡ whole (product a b).is_below (product a b).size =
-    ap (λ z. z *ℤ signed_value b) (signed-whole a h) ∙ ap (λ z. whole (is_negative a) (magnitude a) *ℤ z) (signed-whole b k) ∙ times_whole (is_negative a) (is_negative b) (magnitude a) (magnitude b) in
+    ap (λ z. z *ℤ signed_value b) (signed_whole a h) ∙ ap (λ z. whole (is_negative a) (magnitude a) *ℤ z) (signed_whole b k) ∙ times_whole (is_negative a) (is_negative b) (magnitude a) (magnitude b) in
     let P : ℤ → Type 0 = λ z. Divides z (signed_value d) (answered (floored (product a b) (signed d))) in
     let Q : ℤ → Type 0 = λ z. Divides (whole (product a b).is_below (product a b).size) z (answered (floored (product a b) (signed d))) in
-    subst P (sym e) (subst Q (sym (signed-whole d l)) (divides (product a b).is_below (product a b).size (is_negative d) (magnitude d) (magnitude_le d l)))
+    subst P (sym e) (subst Q (sym (signed_whole d l)) (divides (product a b).is_below (product a b).size (is_negative d) (magnitude d) (magnitude_le d l)))

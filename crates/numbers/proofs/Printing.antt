@@ -10,7 +10,7 @@ use Rattle.std.proofs.lemmas.Bool.Decides.{nat_tests, leb_tells}
 use Rattle.std.specs.List.{AllByRecursion as All}
 use Rattle.numbers.specs.Cells.{if◌then◌else◌, is_negative, magnitude, signed_value}
 use Rattle.numbers.specs.Text.{AreDigits, Numeral, Prints, digit_byte, digit_of, digits_of, number_in, signed_text, unsigned_text, value_of, worth}
-use Rattle.numbers.proofs.Reading.{minus_number, plain-number, values}
+use Rattle.numbers.proofs.Reading.{minus_number, plain_number, values}
 
 -- the last k digits of n, before those that stand already
 abbrev pub last_digits : ℕ → ℕ → ℕ → List ℕ → List ℕ
@@ -106,8 +106,8 @@ behind b (x ∷ xs) ys h =
     let e : suc (length xs) - 1 ≡ length xs = omega arith in
     ap (λ k. b ∷ (ys ++ post_of 1 k (b ∷ xs))) e ∙ ap (λ zs. b ∷ (ys ++ zs)) (drop-length xs) ∙ ap (λ zs. b ∷ zs) (append-nil ys)
 
-pub minus-text : (base n s : ℕ) (out digits : List ℕ) → is_negative n ≡ true → s ≡ magnitude n → length out ≡ length (signed_text base n) → digits ≡ unsigned_text base s → put_mid 1 (length (set out 0 45) - 1) (set out 0 45) digits ≡ signed_text base n
-minus-text base n s out digits negative size l e =
+pub minus_text : (base n s : ℕ) (out digits : List ℕ) → is_negative n ≡ true → s ≡ magnitude n → length out ≡ length (signed_text base n) → digits ≡ unsigned_text base s → put_mid 1 (length (set out 0 45) - 1) (set out 0 45) digits ≡ signed_text base n
+minus_text base n s out digits negative size l e =
     let text : signed_text base n ≡ 45 ∷ unsigned_text base (magnitude n) = rw negative in
     behind 45 out digits (omega (arith, l, ap length text)) ∙ ap (λ ds. 45 ∷ ds) (e ∙ ap (unsigned_text base) size) ∙ sym text
 
@@ -183,7 +183,7 @@ module _ (base : ℕ) (low : 2 ≤ base) (high : base ≤ 36) where
       (are_digits n, worth-back n, All-weaker (Proper base) (λ b. digit_byte (digit_of b) ≡ b) (λ b p. p.1) (unsigned_text base n) (proper (n + 1) n [] tt), lone-zero n)
 
   pub unsigned_back : (n : ℕ) → n < 65536 → number_in base (unsigned_text base n) ≡ Some n
-  unsigned_back n h = plain-number base n (unsigned_text base n) (are_digits n) (worth-back n) (omega arith)
+  unsigned_back n h = plain_number base n (unsigned_text base n) (are_digits n) (worth-back n) (omega arith)
 
   pub signed_back : (n : ℕ) → n < 65536 → number_in base (signed_text base n) ≡ Some n
   signed_back n h =

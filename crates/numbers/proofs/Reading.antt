@@ -127,9 +127,9 @@ are_digits : (base : ℕ) (bs : List ℕ) → AreDigits base bs → magnitude_of
 are_digits base bs d = ⊎_elim (λ m. m.1) (λ m. absurd (m.0 d)) (magnitudes base bs)
 
 -- a size with a minus in front, in its cell
-below-cell : (w : ℕ) → w ≤ 32768 → negated w ≡ cell_holding (neg_ℤ (pos w))
-below-cell zero h = refl
-below-cell (suc k) h = omega arith
+below_cell : (w : ℕ) → w ≤ 32768 → negated w ≡ cell_holding (neg_ℤ (pos w))
+below_cell zero h = refl
+below_cell (suc k) h = omega arith
 
 no_minus_digit : (base : ℕ) (bs : List ℕ) → AreDigits base (45 ∷ bs) → ⊥
 no_minus_digit base bs d = omega (arith, d.1, d.3.0)
@@ -151,7 +151,7 @@ after_minus base bs =
     ⊎_elim
     (λ m. rw m.1
     (⊎_elim
-    (λ y. rw y.0 (neg_ℤ (pos w), inr (bs, refl, m.0, refl), (omega (arith, ints, y.1), omega (arith, ints)), below-cell w y.1))
+    (λ y. rw y.0 (neg_ℤ (pos w), inr (bs, refl, m.0, refl), (omega (arith, ints, y.1), omega (arith, ints)), below_cell w y.1))
     (λ y. rw y.0 (λ z v h. omega (arith, ints, (only_minus base bs z v).1, h.0, y.1)))
     (leb_tells w 32768)))
     (λ m. rw m.1 (λ z v h. m.0 (only_minus base bs z v).0))
@@ -174,21 +174,21 @@ nothing base z (inl d) = omega (arith, d.0.2)
 nothing base z (inr (ds, e, d, v)) = let i : ◌≡◌ {A = ℕ} 0 1 = cc in omega arith
 
 -- the definition reads what a text writes
-number-reads : (base : ℕ) (xs : List ℕ) → Reads base xs (number_in base xs)
-number-reads base [] = λ z w h. nothing base z w
-number-reads base (b ∷ bs) =
+number_reads : (base : ℕ) (xs : List ℕ) → Reads base xs (number_in base xs)
+number_reads base [] = λ z w h. nothing base z w
+number_reads base (b ∷ bs) =
     ⊎_elim
     (λ y. rw y.0 (subst (λ c. Reads base (c ∷ bs) (up_to 32768 negated (magnitude_of base bs))) (sym y.1) (after_minus base bs)))
     (λ y. rw y.0 (without_minus base b bs y.1))
     (eqb_tells b 45)
 
 pub reads_as : (base : ℕ) (xs : List ℕ) (r : Option ℕ) → r ≡ number_in base xs → Reads base xs r
-reads_as base xs r e = subst (Reads base xs) (sym e) (number-reads base xs)
+reads_as base xs r e = subst (Reads base xs) (sym e) (number_reads base xs)
 
 -- digits worth a cell are read as that cell
-pub plain-number : (base v : ℕ) (xs : List ℕ) → AreDigits base xs → worth base xs ≡ v → v ≤ 65535 → number_in base xs ≡ Some v
-plain-number base v [] d e h = absurd (omega (arith, d.2))
-plain-number base v (b ∷ bs) d e h =
+pub plain_number : (base v : ℕ) (xs : List ℕ) → AreDigits base xs → worth base xs ≡ v → v ≤ 65535 → number_in base xs ≡ Some v
+plain_number base v [] d e h = absurd (omega (arith, d.2))
+plain_number base v (b ∷ bs) d e h =
     let other : eqb b 45 ≡ false = grind (arith, nat_tests, d.1, d.3.0) in
     let small : leb (worth base (b ∷ bs)) 65535 ≡ true = grind (arith, nat_tests, e) in
     rw other (ap (up_to 65535 (λ n. n)) (are_digits base (b ∷ bs) d) ∙ rw small (ap Some e))

@@ -30,14 +30,14 @@ pub record PutBack (r r' : Registers) (d : Dictionary) : Type 0 where
   pub shared : r'.shared ≡ share_of d.ends d.names r.shared
   pub seat : r'.seat ≡ seat_with d.order r.seat
 
-pub here-seen : (r : Registers) (i c t : List ℕ) (k : List Mark) (s : Meaning) → length i ≡ 65536 → here (seen r i c t k s) ≡ r.shared.ends.here
-here-seen r i c t k s l =
+pub here_seen : (r : Registers) (i c t : List ℕ) (k : List Mark) (s : Meaning) → length i ≡ 65536 → here (seen r i c t k s) ≡ r.shared.ends.here
+here_seen r i c t k s l =
     let e : length (high_of r.shared.ends.here i) ≡ r.shared.ends.here - 32768 = length_high r.shared.ends.here i (omega (arith, r.limit)) in
     omega (arith, r.space)
 
 pub dict_seen : (r : Registers) (d : Dictionary) (i c t : List ℕ) (k : List Mark) (s : Meaning) → length i ≡ 65536 → ReadOff r d → dict_of (seen r i c t k s) ≡ lent.dict_of d i
 dict_seen r d i c t k s l p =
-    ap (λ h. dict_in (record { dp = r.shared.ends.dp; here = h }) r.shared.names r.seat.order i) (here-seen r i c t k s l)
+    ap (λ h. dict_in (record { dp = r.shared.ends.dp; here = h }) r.shared.names r.seat.order i) (here_seen r i c t k s l)
     ∙ sym (ap (λ e. dict_in e d.names d.order i) p.ends ∙ ap (λ n. dict_in r.shared.ends n d.order i) p.names ∙ ap (λ o. dict_in r.shared.ends r.shared.names o i) p.order)
 
 -- data space up to an end at or below HERE, and the line, are those of the image before
@@ -77,7 +77,7 @@ module _ (r r' : Registers) (d d' : Dictionary) (i i' : List ℕ) (f : Dict → 
         ∙ ap (λ (D : Dict). with_high (take (d'.ends.here - 32768) (seen r i c t k s).high) (changed (λ _. D) (seen r i c t k s))) (e ∙ ap f (sym (dict_seen r d i c t k s l p)))
 
     -- HERE stays
-    pub changed-view : d'.ends.here ≡ r.shared.ends.here → seen r' i' c t k s ≡ changed f (seen r i c t k s)
-    changed-view h =
+    pub changed_view : d'.ends.here ≡ r.shared.ends.here → seen r' i' c t k s ≡ changed f (seen r i c t k s)
+    changed_view h =
         cut_view (omega (arith, h))
         ∙ ap (λ y. with_high y (changed f (seen r i c t k s))) (ap (λ y. take (y - 32768) (high_of r.shared.ends.here i)) h ∙ take_all (r.shared.ends.here - 32768) (high_of r.shared.ends.here i) (omega (arith, length_high r.shared.ends.here i (omega (arith, r.limit)))))

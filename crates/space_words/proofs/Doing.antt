@@ -22,9 +22,9 @@ pub fetch_acts : Acts 34 (Kernel.fetches 2)
 unfolding perform
 fetch_acts again a m = refl
 
-pub store-acts : Acts 35 (Kernel.stores 2)
+pub store_acts : Acts 35 (Kernel.stores 2)
 unfolding perform
-store-acts again a m = refl
+store_acts again a m = refl
 
 pub add_acts : Acts 36 Kernel.addTo
 unfolding perform
@@ -110,9 +110,9 @@ unfolding overwritten
 filled m h k = rw (h, k)
 
 -- BASE
-pub base-set : (n : ℕ) (m : Machine) → do_space (Kernel.set_base n) m ≡ quietly (with_high (overwritten 0 (cell n) m.high) m)
+pub base_set : (n : ℕ) (m : Machine) → do_space (Kernel.set_base n) m ≡ quietly (with_high (overwritten 0 (cell n) m.high) m)
 unfolding overwritten
-base-set n m = refl
+base_set n m = refl
 
 pub decimal_acts : Acts 42 (Kernel.set_base 10)
 unfolding perform

@@ -11,7 +11,7 @@ use Rattle.image.specs.Cells.{at, cell, cell_at}
 use Rattle.image.specs.Views.{low_of, high_of}
 use Rattle.image.specs.Writes.{overwritten, moved_up}
 use Rattle.image.proofs.Laws.{length_high}
-use Rattle.image.proofs.Laws.{cell-high, get_or-high}
+use Rattle.image.proofs.Laws.{cell_high, get_or_high}
 use Rattle.numbers.specs.Cells.{wrap}
 use Rattle.definition.specs.declared.registers.Mark.{Mark}
 use Rattle.definition.specs.declared.ranged.Registers.{Registers}
@@ -23,10 +23,10 @@ use Rattle.definition.specs.Stacks.{replaced}
 use Rattle.definition.specs.Space.{do_space}
 use Rattle.steps.specs.Seats.{told_by, with_cell_depth}
 use Rattle.steps.specs.Does.{seen, acts, Does, OnSpace}
-use Rattle.steps.proofs.Exits.{yes, refused-at, has_cells_lem, lacks_cells, has_room_lem, cells-view}
+use Rattle.steps.proofs.Exits.{yes, refused_at, has_cells_lem, lacks_cells, has_room_lem, cells_view}
 use Rattle.space_words.specs.Numbers.{reachable}
-use Rattle.space_words.proofs.Written.{Wrote, overwrote, moved_views, reached, reach_is, space-view}
-use Rattle.space_words.proofs.Doing.{Acts, fetch_acts, fetch_byte_acts, store-acts, store_byte_acts, add_acts, fill_acts, copy_acts, takes_of, short, fetch_far, store_far, add_far, fill_far, copy_far, copy_too_far, fetched, byte_fetched, stored, byte_stored, added, filled, base-set, copied, moved_on_lem}
+use Rattle.space_words.proofs.Written.{Wrote, overwrote, moved_views, reached, reach_is, space_view}
+use Rattle.space_words.proofs.Doing.{Acts, fetch_acts, fetch_byte_acts, store_acts, store_byte_acts, add_acts, fill_acts, copy_acts, takes_of, short, fetch_far, store_far, add_far, fill_far, copy_far, copy_too_far, fetched, byte_fetched, stored, byte_stored, added, filled, base_set, copied, moved_on_lem}
 
 abbrev deep : Registers → ℕ
 deep r = r.seat.depths.cells
@@ -45,32 +45,32 @@ positive n (inl q) = absurd (omega (arith, q))
 positive n (inr q) = q
 
 -- a refusal
-pub space-refused : (n : ℕ) (w : SpaceWord) → Acts n w → (r : Registers) (i c : List ℕ) (e : Fault) (why : Reason) → ((t : List ℕ) (k : List Mark) (s : Meaning) → do_space w (seen r i c t k s) ≡ refused why (seen r i c t k s)) → e ≡ fault_of why (told_by r.seat) → OnSpace n r i c (Err e) r i c
-space-refused n w q r i c e why h p = λ again a t k s. refused-at (acts n again a) (seen r i c t k s) e why (q again a (seen r i c t k s) ∙ h t k s) p
+pub space_refused : (n : ℕ) (w : SpaceWord) → Acts n w → (r : Registers) (i c : List ℕ) (e : Fault) (why : Reason) → ((t : List ℕ) (k : List Mark) (s : Meaning) → do_space w (seen r i c t k s) ≡ refused why (seen r i c t k s)) → e ≡ fault_of why (told_by r.seat) → OnSpace n r i c (Err e) r i c
+space_refused n w q r i c e why h p = λ again a t k s. refused_at (acts n again a) (seen r i c t k s) e why (q again a (seen r i c t k s) ∙ h t k s) p
 
-pub space-short : (n : ℕ) (w : SpaceWord) → Acts n w → (r : Registers) (i c : List ℕ) (e : Fault) → length c ≡ 128 → 0 < takes_of w → deep r < takes_of w → e ≡ fault_of StackUnderflow (told_by r.seat) → OnSpace n r i c (Err e) r i c
-space-short n w q r i c e l b h p = space-refused n w q r i c e StackUnderflow (λ t k s. short w (seen r i c t k s) b (lacks_cells r i c t k s l (takes_of w) h)) p
+pub space_short : (n : ℕ) (w : SpaceWord) → Acts n w → (r : Registers) (i c : List ℕ) (e : Fault) → length c ≡ 128 → 0 < takes_of w → deep r < takes_of w → e ≡ fault_of StackUnderflow (told_by r.seat) → OnSpace n r i c (Err e) r i c
+space_short n w q r i c e l b h p = space_refused n w q r i c e StackUnderflow (λ t k s. short w (seen r i c t k s) b (lacks_cells r i c t k s l (takes_of w) h)) p
 
 module _ (r : Registers) (i c : List ℕ) (li : length i ≡ 65536) (lc : length c ≡ 128) where
   pub fetch_too_far : (v n a : ℕ) → Acts v (Kernel.fetches n) → (e : Fault) → 1 ≤ deep r → a ≡ top r c 0 → reachable a n r.shared.ends.here ≡ false → e ≡ fault_of OutOfReach (told_by r.seat) → OnSpace v r i c (Err e) r i c
   fetch_too_far v n a z e h p q g =
       let q' : reachable (top r c 0) n r.shared.ends.here ≡ false = rw p at q in
-      space-refused v (Kernel.fetches n) z r i c e OutOfReach (λ t k s. fetch_far n (seen r i c t k s) (has_cells_lem r i c t k s lc 1 h) (reach_is r i c t k s li _ n false q')) g
+      space_refused v (Kernel.fetches n) z r i c e OutOfReach (λ t k s. fetch_far n (seen r i c t k s) (has_cells_lem r i c t k s lc 1 h) (reach_is r i c t k s li _ n false q')) g
 
   pub store_too_far : (v n a : ℕ) → Acts v (Kernel.stores n) → (e : Fault) → 2 ≤ deep r → a ≡ top r c 0 → reachable a n r.shared.ends.here ≡ false → e ≡ fault_of OutOfReach (told_by r.seat) → OnSpace v r i c (Err e) r i c
   store_too_far v n a z e h p q g =
       let q' : reachable (top r c 0) n r.shared.ends.here ≡ false = rw p at q in
-      space-refused v (Kernel.stores n) z r i c e OutOfReach (λ t k s. store_far n (seen r i c t k s) (has_cells_lem r i c t k s lc 2 h) (reach_is r i c t k s li _ n false q')) g
+      space_refused v (Kernel.stores n) z r i c e OutOfReach (λ t k s. store_far n (seen r i c t k s) (has_cells_lem r i c t k s lc 2 h) (reach_is r i c t k s li _ n false q')) g
 
   pub add_too_far : (a : ℕ) (e : Fault) → 2 ≤ deep r → a ≡ top r c 0 → reachable a 2 r.shared.ends.here ≡ false → e ≡ fault_of OutOfReach (told_by r.seat) → OnSpace 36 r i c (Err e) r i c
   add_too_far a e h p q g =
       let q' : reachable (top r c 0) 2 r.shared.ends.here ≡ false = rw p at q in
-      space-refused 36 Kernel.addTo add_acts r i c e OutOfReach (λ t k s. add_far (seen r i c t k s) (has_cells_lem r i c t k s lc 2 h) (reach_is r i c t k s li _ 2 false q')) g
+      space_refused 36 Kernel.addTo add_acts r i c e OutOfReach (λ t k s. add_far (seen r i c t k s) (has_cells_lem r i c t k s lc 2 h) (reach_is r i c t k s li _ 2 false q')) g
 
   pub fill_too_far : (a n : ℕ) (e : Fault) → 3 ≤ deep r → a ≡ top r c 2 → n ≡ top r c 1 → reachable a n r.shared.ends.here ≡ false → e ≡ fault_of OutOfReach (told_by r.seat) → OnSpace 40 r i c (Err e) r i c
   fill_too_far a n e h p u q g =
       let q' : reachable (top r c 2) (top r c 1) r.shared.ends.here ≡ false = rw (p, u) at q in
-      space-refused 40 Kernel.fill fill_acts r i c e OutOfReach (λ t k s. fill_far (seen r i c t k s) (has_cells_lem r i c t k s lc 3 h) (reach_is r i c t k s li (top r c 2) (top r c 1) false q')) g
+      space_refused 40 Kernel.fill fill_acts r i c e OutOfReach (λ t k s. fill_far (seen r i c t k s) (has_cells_lem r i c t k s lc 3 h) (reach_is r i c t k s li (top r c 2) (top r c 1) false q')) g
 
   -- a cell or a byte fetched
   pub fetch_done : (r' : Registers) (c' : List ℕ) (a x : ℕ) → 1 ≤ deep r → a ≡ top r c 0 → reachable a 2 r.shared.ends.here ≡ true → x ≡ cell_at i a → r'.shared ≡ r.shared → r'.seat ≡ with_cell_depth (deep r - 1 + 1) r.seat → stack_of (deep r - 1 + 1) c' ≡ x ∷ drop 1 (stack_of (deep r) c) → OnSpace 34 r i c (Ok tt) r' i c'
@@ -78,22 +78,22 @@ module _ (r : Registers) (i c : List ℕ) (li : length i ≡ 65536) (lc : length
       let m = seen r i c t k s in
       let q' : reachable (top r c 0) 2 r.shared.ends.here ≡ true = rw p at q in
       let w = positive 1 (reached (top r c 0) 2 r.shared.ends.here q') in
-      let f : cell_at (high_of r.shared.ends.here i) (top r c 0 - 32768) ≡ x = cell-high r.shared.ends.here i (top r c 0) w.0 (omega (arith, w.1)) ∙ ap (cell_at i) (sym p) ∙ sym v in
+      let f : cell_at (high_of r.shared.ends.here i) (top r c 0 - 32768) ≡ x = cell_high r.shared.ends.here i (top r c 0) w.0 (omega (arith, w.1)) ∙ ap (cell_at i) (sym p) ∙ sym v in
       fetch_acts again b m ∙ fetched m (has_cells_lem r i c t k s lc 1 h) (reach_is r i c t k s li _ 2 true q') ∙ ap (λ y. replaced 1 (y ∷ []) m) f
-      ∙ rw (has_room_lem r i c t k s lc 1 1 h (omega (arith, r.cells))) (ap quietly (sym (cells-view r r' i c c' t k s _ _ u g e)))
+      ∙ rw (has_room_lem r i c t k s lc 1 1 h (omega (arith, r.cells))) (ap quietly (sym (cells_view r r' i c c' t k s _ _ u g e)))
 
   -- new bytes in their place
   stored-done : (v : ℕ) (w : SpaceWord) → Acts v w → (r' : Registers) (i' : List ℕ) (n a : ℕ) (new : List ℕ) → reachable a (length new) r.shared.ends.here ≡ true → i' ≡ overwritten a new i → Released r r' c n → ((t : List ℕ) (k : List Mark) (s : Meaning) → do_space w (seen r i c t k s) ≡ quietly (with_high (overwritten (a - 32768) new (high_of r.shared.ends.here i)) (with_cells (drop n (stack_of (deep r) c)) (seen r i c t k s)))) → OnSpace v r i c (Ok tt) r' i' c × (take 256 i' ≡ take 256 i)
   stored-done v w z r' i' n a new q e f h =
       let g = overwrote r i i' a new li q e in
-      ((λ again b t k s. z again b (seen r i c t k s) ∙ h t k s ∙ ap quietly (sym (space-view r r' i i' c c t k s (deep r - n) _ _ f.shared f.seat f.stack g))), g.below)
+      ((λ again b t k s. z again b (seen r i c t k s) ∙ h t k s ∙ ap quietly (sym (space_view r r' i i' c c t k s (deep r - n) _ _ f.shared f.seat f.stack g))), g.below)
 
-  pub store-done : (r' : Registers) (i' : List ℕ) (a x : ℕ) → 2 ≤ deep r → a ≡ top r c 0 → x ≡ top r c 1 → reachable a 2 r.shared.ends.here ≡ true → i' ≡ overwritten a (cell x) i → Released r r' c 2 → OnSpace 35 r i c (Ok tt) r' i' c × (take 256 i' ≡ take 256 i)
+  pub store_done : (r' : Registers) (i' : List ℕ) (a x : ℕ) → 2 ≤ deep r → a ≡ top r c 0 → x ≡ top r c 1 → reachable a 2 r.shared.ends.here ≡ true → i' ≡ overwritten a (cell x) i → Released r r' c 2 → OnSpace 35 r i c (Ok tt) r' i' c × (take 256 i' ≡ take 256 i)
   unfolding cell
-  store-done r' i' a x h p u q e f =
+  store_done r' i' a x h p u q e f =
       let q' : reachable (top r c 0) 2 r.shared.ends.here ≡ true = rw p at q in
       let e' : i' ≡ overwritten (top r c 0) (cell (top r c 1)) i = rw (p, u) at e in
-      stored-done 35 (Kernel.stores 2) store-acts r' i' 2 (top r c 0) (cell (top r c 1)) q' e' f
+      stored-done 35 (Kernel.stores 2) store_acts r' i' 2 (top r c 0) (cell (top r c 1)) q' e' f
       (λ t k s. stored (seen r i c t k s) (has_cells_lem r i c t k s lc 2 h) (reach_is r i c t k s li _ 2 true q'))
 
   pub store_byte_done : (r' : Registers) (i' : List ℕ) (a x : ℕ) → 2 ≤ deep r → a ≡ top r c 0 → x ≡ top r c 1 % 256 → reachable a 1 r.shared.ends.here ≡ true → i' ≡ overwritten a (replicate 1 x) i → Released r r' c 2 → OnSpace 38 r i c (Ok tt) r' i' c × (take 256 i' ≡ take 256 i)
@@ -115,7 +115,7 @@ module _ (r : Registers) (i c : List ℕ) (li : length i ≡ 65536) (lc : length
   add_done r' i' a x old h p u q o e f =
       let q' : reachable (top r c 0) 2 r.shared.ends.here ≡ true = rw p at q in
       let w = positive 1 (reached (top r c 0) 2 r.shared.ends.here q') in
-      let o' : old ≡ cell_at (high_of r.shared.ends.here i) (top r c 0 - 32768) = o ∙ ap (cell_at i) p ∙ sym (cell-high r.shared.ends.here i (top r c 0) w.0 (omega (arith, w.1))) in
+      let o' : old ≡ cell_at (high_of r.shared.ends.here i) (top r c 0 - 32768) = o ∙ ap (cell_at i) p ∙ sym (cell_high r.shared.ends.here i (top r c 0) w.0 (omega (arith, w.1))) in
       let new = cell (wrap (cell_at (high_of r.shared.ends.here i) (top r c 0 - 32768) + top r c 1)) in
       let e' : i' ≡ overwritten (top r c 0) new i = e ∙ ap (λ y. overwritten y (cell (wrap (old + x))) i) p ∙ ap (λ y. overwritten (top r c 0) (cell (wrap (y + x))) i) o' ∙ ap (λ y. overwritten (top r c 0) (cell (wrap (cell_at (high_of r.shared.ends.here i) (top r c 0 - 32768) + y))) i) u in
       stored-done 36 Kernel.addTo add_acts r' i' 2 (top r c 0) new q' e' f
@@ -126,27 +126,27 @@ module _ (r : Registers) (i c : List ℕ) (li : length i ≡ 65536) (lc : length
       let m = seen r i c t k s in
       let q' : reachable (top r c 0) 1 r.shared.ends.here ≡ true = rw p at q in
       let w = positive 0 (reached (top r c 0) 1 r.shared.ends.here q') in
-      let f : at (high_of r.shared.ends.here i) (top r c 0 - 32768) ≡ x = get_or-high r.shared.ends.here i (top r c 0) w.0 (omega (arith, w.1)) ∙ ap (at i) (sym p) ∙ sym v in
+      let f : at (high_of r.shared.ends.here i) (top r c 0 - 32768) ≡ x = get_or_high r.shared.ends.here i (top r c 0) w.0 (omega (arith, w.1)) ∙ ap (at i) (sym p) ∙ sym v in
       fetch_byte_acts again b m ∙ byte_fetched m (has_cells_lem r i c t k s lc 1 h) (reach_is r i c t k s li _ 1 true q') ∙ ap (λ y. replaced 1 (y ∷ []) m) f
-      ∙ rw (has_room_lem r i c t k s lc 1 1 h (omega (arith, r.cells))) (ap quietly (sym (cells-view r r' i c c' t k s _ _ u g e)))
+      ∙ rw (has_room_lem r i c t k s lc 1 1 h (omega (arith, r.cells))) (ap quietly (sym (cells_view r r' i c c' t k s _ _ u g e)))
 
   pub base_done : (v n : ℕ) → Acts v (Kernel.set_base n) → (i' : List ℕ) → i' ≡ overwritten 32768 (cell n) i → OnSpace v r i c (Ok tt) r i' c × (take 256 i' ≡ take 256 i)
   unfolding cell
   base_done v n z i' e =
       let q : reachable 32768 2 r.shared.ends.here ≡ true = yes 32770 r.shared.ends.here (omega (arith, r.space)) in
       let g = overwrote r i i' 32768 (cell n) li q e in
-      ((λ again b t k s. z again b (seen r i c t k s) ∙ base-set n (seen r i c t k s) ∙ ap quietly (sym (space-view r r i i' c c t k s (deep r) (stack_of (deep r) c) _ refl refl refl g))), g.below)
+      ((λ again b t k s. z again b (seen r i c t k s) ∙ base_set n (seen r i c t k s) ∙ ap quietly (sym (space_view r r i i' c c t k s (deep r) (stack_of (deep r) c) _ refl refl refl g))), g.below)
 
   pub copy_from_far : (n to from : ℕ) (e : Fault) → 3 ≤ deep r → n ≡ top r c 0 → to ≡ top r c 1 → from ≡ top r c 2 → reachable from n r.shared.ends.here ≡ false → e ≡ fault_of OutOfReach (told_by r.seat) → OnSpace 39 r i c (Err e) r i c
   copy_from_far n to from e h p u v q g =
       let q' : reachable (top r c 2) (top r c 0) r.shared.ends.here ≡ false = rw (v, p) at q in
-      space-refused 39 Kernel.move copy_acts r i c e OutOfReach (λ t k s. copy_far (seen r i c t k s) (has_cells_lem r i c t k s lc 3 h) (reach_is r i c t k s li (top r c 2) (top r c 0) false q')) g
+      space_refused 39 Kernel.move copy_acts r i c e OutOfReach (λ t k s. copy_far (seen r i c t k s) (has_cells_lem r i c t k s lc 3 h) (reach_is r i c t k s li (top r c 2) (top r c 0) false q')) g
 
   pub copy_to_far : (n to from : ℕ) (e : Fault) → 3 ≤ deep r → n ≡ top r c 0 → to ≡ top r c 1 → from ≡ top r c 2 → reachable from n r.shared.ends.here ≡ true → reachable to n r.shared.ends.here ≡ false → e ≡ fault_of OutOfReach (told_by r.seat) → OnSpace 39 r i c (Err e) r i c
   copy_to_far n to from e h p u v y q g =
       let y' : reachable (top r c 2) (top r c 0) r.shared.ends.here ≡ true = rw (v, p) at y in
       let q' : reachable (top r c 1) (top r c 0) r.shared.ends.here ≡ false = rw (u, p) at q in
-      space-refused 39 Kernel.move copy_acts r i c e OutOfReach (λ t k s. copy_too_far (seen r i c t k s) (has_cells_lem r i c t k s lc 3 h) (reach_is r i c t k s li (top r c 2) (top r c 0) true y') (reach_is r i c t k s li (top r c 1) (top r c 0) false q')) g
+      space_refused 39 Kernel.move copy_acts r i c e OutOfReach (λ t k s. copy_too_far (seen r i c t k s) (has_cells_lem r i c t k s lc 3 h) (reach_is r i c t k s li (top r c 2) (top r c 0) true y') (reach_is r i c t k s li (top r c 1) (top r c 0) false q')) g
 
   pub copy_done : (r' : Registers) (i' : List ℕ) (n to from : ℕ) → 3 ≤ deep r → n ≡ top r c 0 → to ≡ top r c 1 → from ≡ top r c 2 → reachable from n r.shared.ends.here ≡ true → reachable to n r.shared.ends.here ≡ true → i' ≡ moved_up n from to i → Released r r' c 3 → OnSpace 39 r i c (Ok tt) r' i' c × (take 256 i' ≡ take 256 i)
   copy_done r' i' n to from h p u v y q e f =
@@ -155,6 +155,6 @@ module _ (r : Registers) (i c : List ℕ) (li : length i ≡ 65536) (lc : length
       let e' : i' ≡ moved_up (top r c 0) (top r c 2) (top r c 1) i = rw (p, v, u) at e in
       let g = moved_views r i i' (top r c 0) (top r c 2) (top r c 1) li y' q' e' in (
         (λ again b t k s. copy_acts again b (seen r i c t k s) ∙ copied (seen r i c t k s) (has_cells_lem r i c t k s lc 3 h) (reach_is r i c t k s li (top r c 2) (top r c 0) true y') (reach_is r i c t k s li (top r c 1) (top r c 0) true q')
-            ∙ ap quietly (sym (space-view r r' i i' c c t k s (deep r - 3) _ _ f.shared f.seat f.stack g))),
+            ∙ ap quietly (sym (space_view r r' i i' c c t k s (deep r - 3) _ _ f.shared f.seat f.stack g))),
         g.below,
       )

@@ -6,8 +6,8 @@ use Rattle.store.specs.Meaning.{Meaning}
 use Rattle.stacks.specs.Stack.{stack_of}
 use Rattle.image.specs.Views.{low_of, high_of, line_of}
 use Rattle.image.specs.Writes.{overwritten, moved_up}
-use Rattle.image.proofs.Overwriting.{overwritten-none, take-before}
-use Rattle.image.proofs.Laws.{length_high, low-kept, line_kept, high-within}
+use Rattle.image.proofs.Overwriting.{overwritten_none, take-before}
+use Rattle.image.proofs.Laws.{length_high, low_kept, line_kept, high_within}
 use Rattle.image.proofs.Moving.{low_moved, line_moved, high_moved}
 use Rattle.definition.specs.declared.registers.Mark.{Mark}
 use Rattle.definition.specs.declared.ranged.Registers.{Registers}
@@ -52,8 +52,8 @@ wrote_nothing r i i' e = record { low = ap (low_of _) e; line = ap line_of e; hi
 
 pub overwrote : (r : Registers) (i i' : List ℕ) (a : ℕ) (new : List ℕ) → length i ≡ 65536 → reachable a (length new) r.shared.ends.here ≡ true → i' ≡ overwritten a new i → Wrote r i i' (overwritten (a - 32768) new (high_of r.shared.ends.here i))
 overwrote r i i' a [] l p e =
-    let h = wrote_nothing r i i' (e ∙ overwritten-none a i) in
-    record { low = h.low; line = h.line; high = h.high ∙ sym (overwritten-none (a - 32768) (high_of r.shared.ends.here i)); below = h.below }
+    let h = wrote_nothing r i i' (e ∙ overwritten_none a i) in
+    record { low = h.low; line = h.line; high = h.high ∙ sym (overwritten_none (a - 32768) (high_of r.shared.ends.here i)); below = h.below }
 overwrote r i i' a (x ∷ new) l p e = at (reached a (length (x ∷ new)) r.shared.ends.here p)
   where
     at : (length (x ∷ new) ≡ 0) ⊎ ((32768 ≤ a) × (a + length (x ∷ new) ≤ r.shared.ends.here)) → Wrote r i i' (overwritten (a - 32768) (x ∷ new) (high_of r.shared.ends.here i))
@@ -61,9 +61,9 @@ overwrote r i i' a (x ∷ new) l p e = at (reached a (length (x ∷ new)) r.shar
     at (inr q) =
         let f : a + length (x ∷ new) ≤ length i = omega (arith, r.limit, q.1) in
         record {
-          low = ap (low_of r.shared.ends.dp) e ∙ low-kept a (x ∷ new) i f r.shared.ends.dp (omega (arith, r.top, q.0));
+          low = ap (low_of r.shared.ends.dp) e ∙ low_kept a (x ∷ new) i f r.shared.ends.dp (omega (arith, r.top, q.0));
           line = ap line_of e ∙ line_kept a (x ∷ new) i f (omega (arith, q.0));
-          high = ap (high_of r.shared.ends.here) e ∙ high-within a (x ∷ new) i f r.shared.ends.here q.0 q.1 (omega (arith, r.limit));
+          high = ap (high_of r.shared.ends.here) e ∙ high_within a (x ∷ new) i f r.shared.ends.here q.0 q.1 (omega (arith, r.limit));
           below = ap (take 256) e ∙ take-before 256 a (x ∷ new) i (omega (arith, q.0)) (omega arith);
         }
 
@@ -105,8 +105,8 @@ built r t k s low high line cells = record {
   store = s;
 }
 
-pub space-view : (r r' : Registers) (i i' c c' t : List ℕ) (k : List Mark) (s : Meaning) (d : ℕ) (xs hs : List ℕ) → r'.shared ≡ r.shared → r'.seat ≡ with_cell_depth d r.seat → stack_of d c' ≡ xs → Wrote r i i' hs → seen r' i' c' t k s ≡ with_high hs (with_cells xs (seen r i c t k s))
-space-view r r' i i' c c' t k s d xs hs p q e w =
+pub space_view : (r r' : Registers) (i i' c c' t : List ℕ) (k : List Mark) (s : Meaning) (d : ℕ) (xs hs : List ℕ) → r'.shared ≡ r.shared → r'.seat ≡ with_cell_depth d r.seat → stack_of d c' ≡ xs → Wrote r i i' hs → seen r' i' c' t k s ≡ with_high hs (with_cells xs (seen r i c t k s))
+space_view r r' i i' c c' t k s d xs hs p q e w =
     ap (λ h. view_of h r'.seat (lent i' c' t k) s) p
     ∙ ap (λ h. view_of r.shared h (lent i' c' t k) s) q
     ∙ ap (λ y. built r t k s y (high_of r.shared.ends.here i') (line_of i') (stack_of d c')) w.low

@@ -82,8 +82,8 @@ stack_roll d k xs ys z h l e = at (take (k + 1) (drop (d - 1 - k) xs)) refl
         ap reverse (t ∙ ap (λ (s : List _). take (d - 1 - k) xs ++ s) w) ∙ roll_core (take (d - 1 - k) xs) p Q z k lq ∙ ap (λ s. rolled k (reverse s) z) (sym u')
 
 -- the same, at a place that a function gave
-pub stack_roll-at : {X : Type 0} (d k a : ℕ) (xs ys : List X) (z : X) → a ≡ d - 1 - k → k < d → d ≤ length xs → ys ≡ drop 1 (take (d - a) (drop a xs)) ++ take 1 (take (d - a) (drop a xs)) → stack_of d (put_mid a (d - a) xs ys) ≡ rolled k (stack_of d xs) z
-stack_roll-at d k a xs ys z p h l e =
+pub stack_roll_at : {X : Type 0} (d k a : ℕ) (xs ys : List X) (z : X) → a ≡ d - 1 - k → k < d → d ≤ length xs → ys ≡ drop 1 (take (d - a) (drop a xs)) ++ take 1 (take (d - a) (drop a xs)) → stack_of d (put_mid a (d - a) xs ys) ≡ rolled k (stack_of d xs) z
+stack_roll_at d k a xs ys z p h l e =
     let n : d - a ≡ k + 1 = omega arith in
     let e' : ys ≡ drop 1 (take (k + 1) (drop (d - 1 - k) xs)) ++ take 1 (take (k + 1) (drop (d - 1 - k) xs)) =
     e ∙ ap (λ i. drop 1 (take i (drop a xs)) ++ take 1 (take i (drop a xs))) n

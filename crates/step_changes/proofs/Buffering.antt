@@ -22,7 +22,7 @@ use Rattle.definition.specs.Step.{bringing}
 use Rattle.step_changes.specs.Steady.{BlockInCell, StoreHolds, Steady}
 use Rattle.step_changes.specs.Laws.{Quietly, stays}
 use Rattle.step_changes.proofs.Ranges.{bytes_take, bytes_drop, length_put, bytes_put}
-use Rattle.step_changes.proofs.Leading.{Leads, Gives, leads_ask, leads_given, gives_ask, gives_on, gives_if, stayed, same_dict, with_high_lem, with_cells_lem, with_text_lem, nth-cell, with_popped}
+use Rattle.step_changes.proofs.Leading.{Leads, Gives, leads_ask, leads_given, gives_ask, gives_on, gives_if, stayed, same_dict, with_high_lem, with_cells_lem, with_text_lem, nth_cell, with_popped}
 
 -- a machine that is steady and has the dictionary of m
 abbrev pub Kept : Machine → Machine → Type 0
@@ -69,19 +69,19 @@ module _ (s : Meaning) (k : StoreHolds s) (n : ℕ) (new : List ℕ) (b : Bytes 
   }
 
 module _ (m : Machine) (s : Steady m) where
-  pub buffer-long : length (buffer_of m) ≡ 1024
-  buffer-long = simp (length-take, length-drop) (omega (arith, s.space.long))
+  pub buffer_long : length (buffer_of m) ≡ 1024
+  buffer_long = simp (length-take, length-drop) (omega (arith, s.space.long))
 
-  pub buffer-bytes : Bytes (buffer_of m)
-  buffer-bytes = bytes_take 1024 (drop 256 m.high) (bytes_drop 256 m.high s.space.bytes)
+  pub buffer_bytes : Bytes (buffer_of m)
+  buffer_bytes = bytes_take 1024 (drop 256 m.high) (bytes_drop 256 m.high s.space.bytes)
 
-  pub saved-store : (n : ℕ) → StoreHolds (written m.store n (buffer_of m))
-  saved-store n = written_holds m.store s.store n (buffer_of m) buffer-bytes buffer-long
+  pub saved_store : (n : ℕ) → StoreHolds (written m.store n (buffer_of m))
+  saved_store n = written_holds m.store s.store n (buffer_of m) buffer_bytes buffer_long
 
   written_keeps : (n : ℕ) → Gives (Kept m) (written_to n m)
   written_keeps n =
       gives_ask _ _ _ (ltb n m.store.count) _ (λ h. gives_ask _ _ _ m.store.writable _ (λ g.
-      let x : Kept m (with_blocks (Some n) false (written m.store n (buffer_of m)) m) = (with_store_lem m s (Some n) false _ (saved-store n), refl) in x))
+      let x : Kept m (with_blocks (Some n) false (written m.store n (buffer_of m)) m) = (with_store_lem m s (Some n) false _ (saved_store n), refl) in x))
 
   held_keeps : (h : Option ℕ) → Gives (Kept m) (elim h [ None ↦ given m | Some n ↦ written_to n m ])
   held_keeps None = (s, refl)
@@ -131,4 +131,4 @@ module _ (m : Machine) (s : Steady m) where
       let w = m.text.source in
       leads_ask _ _ _ (has_cells 1 m) _ (λ h. leads_ask _ _ _ (not (eqb (nth 0 m) 0) && ltb (length m.text.loads) 8) _ (λ g.
       stayed (reading (record { blk = nth 0 m; offset = 0 }) w.word (w.position ∷ m.text.loads) (popped 1 m)) stays
-      (with_reading (popped 1 m) (with_popped m s 1) _ w.word _ (nth-cell m s 0) (s.text.reads, s.text.loads))))
+      (with_reading (popped 1 m) (with_popped m s 1) _ w.word _ (nth_cell m s 0) (s.text.reads, s.text.loads))))

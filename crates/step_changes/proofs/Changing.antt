@@ -24,9 +24,9 @@ use Rattle.step_changes.proofs.Known.{known}
 use Rattle.step_changes.proofs.Leading.{Leads, leads_ask}
 use Rattle.step_changes.proofs.Restated.{resolved}
 
-pub run-quietly : {Z D E : Dict} → Run Z D → Quietly D E → Run Z E
-run-quietly r stays = r
-run-quietly r (and_then c q a k) = law.and_then c (run-quietly r q) a
+pub run_quietly : {Z D E : Dict} → Run Z D → Quietly D E → Run Z E
+run_quietly r stays = r
+run_quietly r (and_then c q a k) = law.and_then c (run_quietly r q) a
 
 pub quietly_then : {A B C : Dict} → Quietly A B → Quietly B C → Quietly A C
 quietly_then p stays = p
@@ -56,7 +56,7 @@ with_change m s f marks e r c k = record {
 }
 
 pub change_leads : (m : Machine) → Steady m → (f : Dict → Dict) (marks : List Mark) → (f (dict_of m)).here ≡ here m → Quietly (dict_of m) (f (dict_of m)) → (m.flow.compiling ≡ true → (f (dict_of m)).opened ≢ 0) → All (InOpen (f (dict_of m))) marks → Quietly (dict_of m) (dict_of (with_marks marks (changed f m))) × Steady (with_marks marks (changed f m))
-change_leads m s f marks e q c k = (subst (Quietly (dict_of m)) (same_changed m f e) q, with_change m s f marks e (run-quietly s.came q) c k)
+change_leads m s f marks e q c k = (subst (Quietly (dict_of m)) (same_changed m f e) q, with_change m s f marks e (run_quietly s.came q) c k)
 
 -- the compiling flag
 pub with_compiling_lem : (m : Machine) → Steady m → (b : Bool) → (b ≡ true → m.names.opened ≢ 0) → Steady (with_compiling b m)
@@ -119,21 +119,21 @@ Patchable D a = (first_at D.low D.opened + 2 ≤ a) × (a + 2 ≤ dp D)
 pub grown_patchable : {D E : Dict} → Grown D E → (a : ℕ) → Patchable D a → Patchable E a
 grown_patchable g a p = (omega (arith, g.first, p.0), omega (arith, g.longer, p.1))
 
-pub appended-quietly : (D : Dict) → Run boot_dict D → D.opened ≢ 0 → (bs : List ℕ) → Bytes bs → dp D + length bs ≤ 32768 → Quietly D (appended bs D)
+pub appended_quietly : (D : Dict) → Run boot_dict D → D.opened ≢ 0 → (bs : List ℕ) → Bytes bs → dp D + length bs ≤ 32768 → Quietly D (appended bs D)
 unfolding changedBy
-appended-quietly D r o bs b h = and_then (append bs) stays (record { is_open = o; room = h; whole = b }) tt
+appended_quietly D r o bs b h = and_then (append bs) stays (record { is_open = o; room = h; whole = b }) tt
 
-pub resolved-quietly : (known-cells : List ℕ) (D : Dict) → Run boot_dict D → D.opened ≢ 0 → All (Patchable D) known-cells → Quietly D (resolved known-cells D) × Grown D (resolved known-cells D)
+pub resolved_quietly : (known-cells : List ℕ) (D : Dict) → Run boot_dict D → D.opened ≢ 0 → All (Patchable D) known-cells → Quietly D (resolved known-cells D) × Grown D (resolved known-cells D)
 unfolding changedBy
-resolved-quietly [] D r o p = (stays, record { here = refl; opened = refl; first = refl; longer = omega arith })
-resolved-quietly (a ∷ rest) D r o p =
+resolved_quietly [] D r o p = (stays, record { here = refl; opened = refl; first = refl; longer = omega arith })
+resolved_quietly (a ∷ rest) D r o p =
     let g = grown_patch D r o a (dp D) p.0.0 in
     let q : Quietly D (patched a (dp D) D) = and_then (patch a (dp D)) stays (record { is_open = o; above = p.0.0; below = p.0.1; value = omega (arith, (known D r).room) }) tt in
-    let k = resolved-quietly rest (patched a (dp D) D) (run-quietly r q) o (All-weaker (Patchable D) (Patchable (patched a (dp D) D)) (grown_patchable g) rest p.1) in
+    let k = resolved_quietly rest (patched a (dp D) D) (run_quietly r q) o (All-weaker (Patchable D) (Patchable (patched a (dp D) D)) (grown_patchable g) rest p.1) in
     (quietly_then q k.0, grown_then g k.1)
 
 module _ (m : Machine) (s : Steady m) (o : m.names.opened ≢ 0) where
   pub append_leads : (bs : List ℕ) → Bytes bs → Leads (dict_of m) (appends bs m)
   append_leads bs b =
       leads_ask _ _ _ (fits (length bs) m) _ (λ h.
-      change_leads m s (appended bs) m.stacks.marks refl (appended-quietly (dict_of m) s.came o bs b (leb-true _ 32768 h)) (λ c. o) (All-weaker (InOpen (dict_of m)) (InOpen (appended bs (dict_of m))) (grown_open (grown_append (dict_of m) s.came o bs)) m.stacks.marks s.marks))
+      change_leads m s (appended bs) m.stacks.marks refl (appended_quietly (dict_of m) s.came o bs b (leb-true _ 32768 h)) (λ c. o) (All-weaker (InOpen (dict_of m)) (InOpen (appended bs (dict_of m))) (grown_open (grown_append (dict_of m) s.came o bs)) m.stacks.marks s.marks))

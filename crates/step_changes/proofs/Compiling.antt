@@ -23,9 +23,9 @@ use Rattle.definition.specs.Compile.{token, literal_of, do_compiling}
 use Rattle.step_changes.specs.Steady.{InOpen, mark_size, Steady}
 use Rattle.step_changes.specs.Laws.{stays}
 use Rattle.step_changes.proofs.Known.{known}
-use Rattle.step_changes.proofs.Ranges.{bytes-none, bytes_more, bytes-cell, length-cell}
-use Rattle.step_changes.proofs.Leading.{Leads, leads_ask, nth-cell, with_popped}
-use Rattle.step_changes.proofs.Changing.{change_leads, with_compiling_lem, grown_open, grown_append, Patchable, appended-quietly, resolved-quietly, append_leads, run-quietly, quietly_then, grown_then}
+use Rattle.step_changes.proofs.Ranges.{bytes_none, bytes_more, bytes_cell, length-cell}
+use Rattle.step_changes.proofs.Leading.{Leads, leads_ask, nth_cell, with_popped}
+use Rattle.step_changes.proofs.Changing.{change_leads, with_compiling_lem, grown_open, grown_append, Patchable, appended_quietly, resolved_quietly, append_leads, run_quietly, quietly_then, grown_then}
 use Rattle.step_changes.proofs.Restated.{kind_number, are_marks, mark, mark_at, resolved, are_cells, structured}
 
 -- the marks that a word takes lie in the open entry
@@ -51,13 +51,13 @@ sizes Do Begin h = absurd (true≢false (sym h))
 sizes Do While h = refl
 sizes Do Do h = refl
 
-marks-inside : (D : Dict) (ks : List Kind) (ms : List Mark) → are_marks ks ms ≡ true → All (InOpen D) ms → (i : ℕ) → i < length ks → Inside D (get_or ks i If) (get_or ms i (mark If 0)).address
-marks-inside D [] ms h a i l = absurd (omega arith)
-marks-inside D (k ∷ ks) [] h a i l = absurd (true≢false (sym h))
-marks-inside D (k ∷ ks) (x ∷ ms) h a zero l =
+marks_inside : (D : Dict) (ks : List Kind) (ms : List Mark) → are_marks ks ms ≡ true → All (InOpen D) ms → (i : ℕ) → i < length ks → Inside D (get_or ks i If) (get_or ms i (mark If 0)).address
+marks_inside D [] ms h a i l = absurd (omega arith)
+marks_inside D (k ∷ ks) [] h a i l = absurd (true≢false (sym h))
+marks_inside D (k ∷ ks) (x ∷ ms) h a zero l =
     let e = sizes k x.kind (and_parts (eqb (kind_number k) (kind_number x.kind)) (are_marks ks ms) h).0 in
     (a.0.above, omega (arith, a.0.below))
-marks-inside D (k ∷ ks) (x ∷ ms) h a (suc i) l = marks-inside D ks ms (and_parts (eqb (kind_number k) (kind_number x.kind)) (are_marks ks ms) h).1 a.1 i (omega arith)
+marks_inside D (k ∷ ks) (x ∷ ms) h a (suc i) l = marks_inside D ks ms (and_parts (eqb (kind_number k) (kind_number x.kind)) (are_marks ks ms) h).1 a.1 i (omega arith)
 
 -- what a word that compiles is given
 abbrev pub Given : Machine → CompilingWord → ℕ → List ℕ → Type 0
@@ -81,7 +81,7 @@ two_cells_lem : (x y : ℕ) → length (cell x ++ cell y) ≡ 4
 two_cells_lem x y = length-append (cell x) (cell y) ∙ (omega (arith, length-cell x, length-cell y))
 
 two_bytes : (x y : ℕ) → x < 65536 → y < 65536 → Bytes (cell x ++ cell y)
-two_bytes x y h k = append-bytes _ _ (bytes-cell x h) (bytes-cell y k)
+two_bytes x y h k = append-bytes _ _ (bytes_cell x h) (bytes_cell y k)
 
 abbrev MarkInside : Dict → Mark → Type 0
 MarkInside D k = Inside D k.kind k.address
@@ -94,9 +94,9 @@ module _ (m : Machine) (s : Steady m) (o : m.names.opened ≢ 0) where
       let D = dict_of m in
       let left = new ++ drop (length kinds) ms in
       leads_ask _ _ _ (are_marks kinds ms) _ (λ h. leads_ask _ _ _ (are_cells cells m) _ (λ j. leads_ask _ _ _ (leb (length left) 32) _ (λ i. leads_ask _ _ _ (fits (length bs) m) _ (λ f.
-      let q = appended-quietly D s.came o bs b (leb-true _ 32768 f) in
+      let q = appended_quietly D s.came o bs b (leb-true _ 32768 f) in
       let g = grown_append D s.came o bs in
-      let r = resolved-quietly cells (appended bs D) (run-quietly s.came q) o (p h).0 in
+      let r = resolved_quietly cells (appended bs D) (run_quietly s.came q) o (p h).0 in
       let E = resolved cells (appended bs D) in
       let gone = grown_then g r.1 in
       change_leads m s (λ D. resolved cells (appended bs D)) left gone.here (quietly_then q r.0) (λ c z. o (sym gone.opened ∙ z))
@@ -113,7 +113,7 @@ module _ (m : Machine) (s : Steady m) (o : m.names.opened ≢ 0) where
   old-mark : (bs : List ℕ) (kinds : List Kind) (i : ℕ) → i < length kinds → are_marks kinds m.stacks.marks ≡ true → Inside (appended bs (dict_of m)) (get_or kinds i If) (mark_at i m)
   old-mark bs kinds i l h =
       let g = grown_append (dict_of m) s.came o bs in
-      let p = marks-inside (dict_of m) kinds m.stacks.marks h s.marks i l in
+      let p = marks_inside (dict_of m) kinds m.stacks.marks h s.marks i l in
       (omega (arith, g.first, p.0), omega (arith, g.longer, p.1))
 
   mark-low : (i : ℕ) → mark_at i m ≤ 32768
@@ -123,19 +123,19 @@ module _ (m : Machine) (s : Steady m) (o : m.names.opened ≢ 0) where
   pub compiling_leads : (w : CompilingWord) (e : ℕ) (text : List ℕ) → Given m w e text → Leads (dict_of m) (do_compiling w e text m)
   compiling_leads (Kernel.compiles b) e text k = (stays, with_compiling_lem m s b (λ h. o))
   compiling_leads Kernel.literal e text k =
-      leads_ask _ _ _ (has_cells 1 m) _ (λ h. append_leads (popped 1 m) (with_popped m s 1) o (literal_of (nth 0 m)) (two_bytes (kernel_token 98) (nth 0 m) (lit< tt) (nth-cell m s 0)))
+      leads_ask _ _ _ (has_cells 1 m) _ (λ h. append_leads (popped 1 m) (with_popped m s 1) o (literal_of (nth 0 m)) (two_bytes (kernel_token 98) (nth 0 m) (lit< tt) (nth_cell m s 0)))
   compiling_leads Kernel.bracketTick e text k = append_leads m s o (literal_of (token_of m.low e)) (two_bytes (kernel_token 98) _ (lit< tt) k)
-  compiling_leads Kernel.bracketCompile e text k = append_leads m s o (cell (token_of m.low e)) (bytes-cell _ k)
-  compiling_leads Kernel.does e text k = append_leads m s o (token 104) (bytes-cell (kernel_token 104) (lit< tt))
+  compiling_leads Kernel.bracketCompile e text k = append_leads m s o (cell (token_of m.low e)) (bytes_cell _ k)
+  compiling_leads Kernel.does e text k = append_leads m s o (token 104) (bytes_cell (kernel_token 104) (lit< tt))
   compiling_leads Kernel.ifC e text k =
       structured-leads [] (token 100 ++ cell 0) [] (mark If (machine.dp m + 2) ∷ []) (two_bytes (kernel_token 100) 0 (lit< tt) (lit< tt)) (λ h. (tt, (new-mark (kernel_token 100) 0, tt)))
   compiling_leads Kernel.elseC e text k =
       let bs = token 99 ++ cell 0 in
       structured-leads (If ∷ []) bs (mark_at 0 m ∷ []) (mark If (machine.dp m + 2) ∷ []) (two_bytes (kernel_token 99) 0 (lit< tt) (lit< tt)) (λ h. ((old-mark bs (If ∷ []) 0 (lit< tt) h, tt), (new-mark (kernel_token 99) 0, tt)))
-  compiling_leads Kernel.thenC e text k = structured-leads (If ∷ []) [] (mark_at 0 m ∷ []) [] bytes-none (λ h. ((old-mark [] (If ∷ []) 0 (lit< tt) h, tt), tt))
+  compiling_leads Kernel.thenC e text k = structured-leads (If ∷ []) [] (mark_at 0 m ∷ []) [] bytes_none (λ h. ((old-mark [] (If ∷ []) 0 (lit< tt) h, tt), tt))
   compiling_leads Kernel.beginC e text k =
       let g = grown_append (dict_of m) s.came o [] in
-      structured-leads [] [] [] (mark Begin (machine.dp m) ∷ []) bytes-none (λ h. (tt, ((omega (arith, g.first, (known (dict_of m) s.came).first o), omega (arith, g.longer)), tt)))
+      structured-leads [] [] [] (mark Begin (machine.dp m) ∷ []) bytes_none (λ h. (tt, ((omega (arith, g.first, (known (dict_of m) s.came).first o), omega (arith, g.longer)), tt)))
   compiling_leads Kernel.whileC e text k =
       let bs = token 100 ++ cell 0 in
       structured-leads (Begin ∷ []) bs [] (mark While (machine.dp m + 2) ∷ mark Begin (mark_at 0 m) ∷ []) (two_bytes (kernel_token 100) 0 (lit< tt) (lit< tt)) (λ h. (tt, (new-mark (kernel_token 100) 0, (old-mark bs (Begin ∷ []) 0 (lit< tt) h, tt))))
@@ -150,4 +150,4 @@ module _ (m : Machine) (s : Steady m) (o : m.names.opened ≢ 0) where
       let bs = token n ++ cell (mark_at 0 m + 2) in
       structured-leads (Do ∷ []) bs (mark_at 0 m ∷ []) [] (two_bytes (kernel_token n) (mark_at 0 m + 2) k (omega (arith, mark-low 0))) (λ h. ((old-mark bs (Do ∷ []) 0 (lit< tt) h, tt), tt))
   compiling_leads Kernel.quoteC e text k =
-      append_leads m s o (token 105 ++ (length text ∷ text)) (append-bytes _ _ (bytes-cell (kernel_token 105) (lit< tt)) (bytes_more (length text) text (omega (arith, k.0)) k.1))
+      append_leads m s o (token 105 ++ (length text ∷ text)) (append-bytes _ _ (bytes_cell (kernel_token 105) (lit< tt)) (bytes_more (length text) text (omega (arith, k.0)) k.1))

@@ -16,7 +16,7 @@ use Rattle.forgetting.specs.Changes.{changed as changedBy}
 use Rattle.forgetting.specs.Law as law
 use Rattle.forgetting.specs.Law.{Run, Begin}
 use Rattle.forgetting.proofs.Trims.{append-bytes}
-use Rattle.forgetting.proofs.Booting.{boot-long}
+use Rattle.forgetting.proofs.Booting.{boot_long}
 use Rattle.definition.specs.Machine.{Machine, dp, here, blk, with_high, with_compiling, changed, dict_of}
 use Rattle.definition.specs.Asked.{forgot}
 use Rattle.definition.specs.Text.{is_name}
@@ -30,29 +30,29 @@ use Rattle.definition.specs.Define.{fits, do_defining}
 use Rattle.step_changes.specs.Steady.{InOpen, Steady}
 use Rattle.step_changes.specs.Laws.{Quietly, stays, and_then, Begins, Turns}
 use Rattle.step_changes.proofs.Known.{known}
-use Rattle.step_changes.proofs.Ranges.{bytes-none, bytes_more, bytes-cell, bytes_take, bytes-replicate, length-cell}
-use Rattle.step_changes.proofs.Leading.{Leads, leads_ask, nth-cell, with_popped}
-use Rattle.step_changes.proofs.Plain.{quiet_if, low-cell}
+use Rattle.step_changes.proofs.Ranges.{bytes_none, bytes_more, bytes_cell, bytes_take, bytes_replicate, length-cell}
+use Rattle.step_changes.proofs.Leading.{Leads, leads_ask, nth_cell, with_popped}
+use Rattle.step_changes.proofs.Plain.{quiet_if, low_cell}
 use Rattle.step_changes.proofs.Spacing.{here_leads}
-use Rattle.step_changes.proofs.Changing.{no_marks, same_changed, with_change, change_leads, with_compiling_lem, appended-quietly}
+use Rattle.step_changes.proofs.Changing.{no_marks, same_changed, with_change, change_leads, with_compiling_lem, appended_quietly}
 use Rattle.step_changes.proofs.Restated.{all_within}
 
 -- a name's bytes as its entry holds them
 
-capital-low : (b : ℕ) → b < 128 → capital b < 128
-capital-low b h = cond_both (leb 97 b && leb b 122) (b - 32) b (λ x. x < 128) (λ e. omega arith) (λ e. h)
+capital_low : (b : ℕ) → b < 128 → capital b < 128
+capital_low b h = cond_both (leb 97 b && leb b 122) (b - 32) b (λ x. x < 128) (λ e. omega arith) (λ e. h)
 
 within_parts : (b : ℕ) (bs : List ℕ) → all_within 33 126 (b ∷ bs) ≡ true → (b < 128) × (all_within 33 126 bs ≡ true)
 within_parts b bs h =
     let p = and_parts (leb 33 b && leb b 126) (all_within 33 126 bs) h in
     (omega (arith, leb-true b 126 (and_parts (leb 33 b) (leb b 126) p.0).1), p.1)
 
-spelled-bytes : (bs : List ℕ) → all_within 33 126 bs ≡ true → Bytes (spelled bs)
-spelled-bytes [] h = bytes-none
-spelled-bytes (b ∷ []) h = bytes_more (capital b + 128) [] (omega (arith, capital-low b (within_parts b [] h).0)) bytes-none
-spelled-bytes (b ∷ c ∷ bs) h =
+spelled_bytes : (bs : List ℕ) → all_within 33 126 bs ≡ true → Bytes (spelled bs)
+spelled_bytes [] h = bytes_none
+spelled_bytes (b ∷ []) h = bytes_more (capital b + 128) [] (omega (arith, capital_low b (within_parts b [] h).0)) bytes_none
+spelled_bytes (b ∷ c ∷ bs) h =
     let p = within_parts b (c ∷ bs) h in
-    bytes_more (capital b) (spelled (c ∷ bs)) (omega (arith, capital-low b p.0)) (spelled-bytes (c ∷ bs) p.1)
+    bytes_more (capital b) (spelled (c ∷ bs)) (omega (arith, capital_low b p.0)) (spelled_bytes (c ∷ bs) p.1)
 
 pub record Named (name : List ℕ) : Type 0 where
   pub some : 1 ≤ length name
@@ -63,19 +63,19 @@ pub named : (name : List ℕ) → is_name name ≡ true → Named name
 named name h =
     let p = and_parts (leb 1 (length name) && leb (length name) 31) (all_within 33 126 name) h in
     let q = and_parts (leb 1 (length name)) (leb (length name) 31) p.0 in
-    record { some = leb-true 1 (length name) q.0; few = leb-true (length name) 31 q.1; bytes = spelled-bytes name p.1 }
+    record { some = leb-true 1 (length name) q.0; few = leb-true (length name) 31 q.1; bytes = spelled_bytes name p.1 }
 
 -- an entry's bytes
 
-entry-bytes : (view link count : ℕ) (name : List ℕ) (code here : ℕ) (rest : List ℕ) → view < 65536 → link < 65536 → count < 256 → Bytes name → code < 65536 → here < 65536 → Bytes rest → Bytes (entry_bytes view link count name code here rest)
+entry_bytes_lem : (view link count : ℕ) (name : List ℕ) (code here : ℕ) (rest : List ℕ) → view < 65536 → link < 65536 → count < 256 → Bytes name → code < 65536 → here < 65536 → Bytes rest → Bytes (entry_bytes view link count name code here rest)
 unfolding entry_bytes
-entry-bytes view link count name code here rest v l c n k h r =
-    append-bytes (cell view) _ (bytes-cell view v) (append-bytes (cell link) _ (bytes-cell link l) (bytes_more count _ c
-    (append-bytes name _ n (append-bytes (cell code) _ (bytes-cell code k) (append-bytes (cell here) rest (bytes-cell here h) r)))))
+entry_bytes_lem view link count name code here rest v l c n k h r =
+    append-bytes (cell view) _ (bytes_cell view v) (append-bytes (cell link) _ (bytes_cell link l) (bytes_more count _ c
+    (append-bytes name _ n (append-bytes (cell code) _ (bytes_cell code k) (append-bytes (cell here) rest (bytes_cell here h) r)))))
 
-entry-long : (view link count : ℕ) (name : List ℕ) (code here : ℕ) (rest : List ℕ) → length (entry_bytes view link count name code here rest) ≡ 9 + length name + length rest
+entry_long : (view link count : ℕ) (name : List ℕ) (code here : ℕ) (rest : List ℕ) → length (entry_bytes view link count name code here rest) ≡ 9 + length name + length rest
 unfolding entry_bytes cell
-entry-long view link count name code here rest = simp length-append (omega arith)
+entry_long view link count name code here rest = simp length-append (omega arith)
 
 -- a word begins
 module _ (m : Machine) (s : Steady m) (z : m.names.opened ≡ 0) (name : List ℕ) (n : Named name) where
@@ -87,8 +87,8 @@ module _ (m : Machine) (s : Steady m) (z : m.names.opened ≡ 0) (name : List �
         shut = z;
         named = omega (arith, n.some);
         short = omega (arith, n.few);
-        room = simp length-append (omega (arith, entry-long (blk m) link (count_byte 0 (spelled name)) (spelled name) code (here m) rest));
-        bytes = entry-bytes (blk m) link (count_byte 0 (spelled name)) (spelled name) code (here m) rest s.text.reads (low-cell m s _) (omega (arith, n.few)) n.bytes k (omega (arith, s.space.short)) r;
+        room = simp length-append (omega (arith, entry_long (blk m) link (count_byte 0 (spelled name)) (spelled name) code (here m) rest));
+        bytes = entry_bytes_lem (blk m) link (count_byte 0 (spelled name)) (spelled name) code (here m) rest s.text.reads (low_cell m s _) (omega (arith, n.few)) n.bytes k (omega (arith, s.space.short)) r;
       }
 
   begun-leads : (f : Dict → Dict) (c : Change) → Begin c → Allowed law.fence c (dict_of m) → f (dict_of m) ≡ changedBy c (dict_of m) → (f (dict_of m)).here ≡ here m → Begins (dp m + 2) (dict_of m) (dict_of (changed f m)) × Steady (changed f m)
@@ -101,12 +101,12 @@ module _ (m : Machine) (s : Steady m) (z : m.names.opened ≡ 0) (name : List �
   unfolding changedBy
   colon-leads h =
       let f = colon_begun (blk m) (spelled name) in
-      let k = begun-leads f (colon (blk m) (spelled name)) tt (begins 201 [] (lit< tt) bytes-none (omega arith)) refl refl in
+      let k = begun-leads f (colon (blk m) (spelled name)) tt (begins 201 [] (lit< tt) bytes_none (omega arith)) refl refl in
       (k.0, with_compiling_lem (changed f m) k.1 true (λ _ e. omega arith))
 
   -- an entry with one more parameter cell
   define-allowed : (code x : ℕ) → code < 65536 → x < 65536 → dp m + (9 + length name + 2) ≤ 32768 → Allowed law.fence (define (blk m) (spelled name) code (cell x)) (dict_of m)
-  define-allowed code x k j h = let l = length-cell x in (begins code (cell x) k (bytes-cell x j) (omega arith), (λ _. omega arith))
+  define-allowed code x k j h = let l = length-cell x in (begins code (cell x) k (bytes_cell x j) (omega arith), (λ _. omega arith))
 
   define-leads : (code x : ℕ) → code < 65536 → x < 65536 → dp m + (9 + length name + 2) ≤ 32768 → Begins (dp m + 2) (dict_of m) (dict_of (changed (defined (blk m) 0 (spelled name) code (cell x)) m)) × Steady (changed (defined (blk m) 0 (spelled name) code (cell x)) m)
   unfolding changedBy
@@ -118,7 +118,7 @@ module _ (m : Machine) (s : Steady m) (z : m.names.opened ≡ 0) (name : List �
       let v = m.names.voclink in
       let l : length (zeros 8 ++ cell v) ≡ 10 = length-append (zeros 8) (cell v) ∙ omega (arith, length-cell v) in
       begun-leads (vocabulary_defined (blk m) (spelled name)) (vocabulary (blk m) (spelled name)) tt
-      (begins 204 (zeros 8 ++ cell v) (lit< tt) (append-bytes (zeros 8) (cell v) (bytes-replicate 8 0 (lit< tt)) (bytes-cell v (known (dict_of m) s.came).link)) (omega arith)) refl refl
+      (begins 204 (zeros 8 ++ cell v) (lit< tt) (append-bytes (zeros 8) (cell v) (bytes_replicate 8 0 (lit< tt)) (bytes_cell v (known (dict_of m) s.came).link)) (omega arith)) refl refl
 
   variable-leads : dp m + (9 + length name + 2) ≤ 32768 → here m + 2 ≤ 65535 → Begins (dp m + 2) (dict_of m) (dict_of (with_high (m.high ++ cell 0) (changed (defined (blk m) 0 (spelled name) 202 (cell 0)) m))) × Steady (with_high (m.high ++ cell 0) (changed (defined (blk m) 0 (spelled name) 202 (cell 0)) m))
   unfolding changedBy
@@ -127,7 +127,7 @@ module _ (m : Machine) (s : Steady m) (z : m.names.opened ≡ 0) (name : List �
       let xs = m.high ++ cell 0 in
       let l : length xs ≡ length m.high + 2 = length-append m.high (cell 0) ∙ omega (arith, length-cell 0) in
       let k = define-leads 202 0 (lit< tt) (lit< tt) h in
-      let a = here_leads (changed f m) k.1 z xs (append-bytes _ _ s.space.bytes (bytes-cell 0 (lit< tt))) (omega (arith, s.space.long)) (omega arith) in
+      let a = here_leads (changed f m) k.1 z xs (append-bytes _ _ s.space.bytes (bytes_cell 0 (lit< tt))) (omega (arith, s.space.long)) (omega arith) in
       (record { next = refl; change = define (blk m) (spelled name) 202 (cell 0); begin = tt; allowed = define-allowed 202 0 (lit< tt) (lit< tt) h; behind = inr (32768 + length xs, refl, z) }, a.1)
 
 -- FORGET: what the search found in a thread of CURRENT
@@ -138,7 +138,7 @@ pub record InThread (m : Machine) (w : ℕ) : Type 0 where
 
 module _ (m : Machine) (s : Steady m) (z : m.names.opened ≡ 0) (w : ℕ) (t : InThread m w) where
   forget-allowed : boots.fence ≤ w → Allowed law.fence (forget w) (dict_of m)
-  forget-allowed f = record { shut = z; thread = t.thread; thread_lt = t.thread_lt; walk = t.walk; high = subst (λ n. n ≤ w) (sym boot-long) f }
+  forget-allowed f = record { shut = z; thread = t.thread; thread_lt = t.thread_lt; walk = t.walk; high = subst (λ n. n ≤ w) (sym boot_long) f }
 
   module _ (b : 34048 ≤ body_of m.low w) (h : body_of m.low w ≤ here m) (f : boots.fence ≤ w) where
     space-left : length (take (body_of m.low w - 32768) m.high) ≡ body_of m.low w - 32768
@@ -183,7 +183,7 @@ module _ (m : Machine) (s : Steady m) where
       let f = λ (D : Dict). open_joined (appended bs D) in
       let n = with_compiling false m in
       let k = with_compiling_lem m s false (λ c. absurd (false≢true c)) in
-      let q : Quietly (dict_of m) (f (dict_of m)) = and_then semicolon (appended-quietly (dict_of m) s.came o bs (bytes-cell (kernel_token 91) (lit< tt)) (omega (arith, length-cell (kernel_token 91)))) o tt in
+      let q : Quietly (dict_of m) (f (dict_of m)) = and_then semicolon (appended_quietly (dict_of m) s.came o bs (bytes_cell (kernel_token 91) (lit< tt)) (omega (arith, length-cell (kernel_token 91)))) o tt in
       change_leads n k f m.stacks.marks refl q (λ c. absurd (false≢true c)) (subst (All (InOpen (f (dict_of m)))) (sym e) tt)
 
   definitions-leads : m.names.opened ≡ 0 → Quietly (dict_of m) (dict_of (changed (with_current m.order.context) m)) × Steady (changed (with_current m.order.context) m)
@@ -214,7 +214,7 @@ module _ (m : Machine) (s : Steady m) where
   defining_leads Kernel.variable name w k =
       leads_ask _ _ _ (fits (9 + length name + 2) m) _ (λ h. leads_ask _ _ _ (leb (here m + 2) 65535) _ (λ g. variable-leads m s k.0 name (named name k.1) (leb-true _ 32768 h) (leb-true _ 65535 g)))
   defining_leads Kernel.constant name w k =
-      leads_ask _ _ _ (has_cells 1 m) _ (λ c. leads_ask _ _ _ (fits (9 + length name + 2) m) _ (λ h. define-leads (popped 1 m) (with_popped m s 1) k.0 name (named name k.1) 203 (nth 0 m) (lit< tt) (nth-cell m s 0) (leb-true _ 32768 h)))
+      leads_ask _ _ _ (has_cells 1 m) _ (λ c. leads_ask _ _ _ (fits (9 + length name + 2) m) _ (λ h. define-leads (popped 1 m) (with_popped m s 1) k.0 name (named name k.1) 203 (nth 0 m) (lit< tt) (nth_cell m s 0) (leb-true _ 32768 h)))
   defining_leads Kernel.vocabulary name w k = leads_ask _ _ _ (fits (9 + length name + 10) m) _ (λ h. vocabulary-leads m s k.0 name (named name k.1) (leb-true _ 32768 h))
   defining_leads Kernel.definitions name w k = definitions-leads k
   defining_leads Kernel.immediate name w k = quiet_if m s (has_newest m) (changed immediate_marked m) m (immediate-leads k) (stays, s)

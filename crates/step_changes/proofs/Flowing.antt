@@ -21,10 +21,10 @@ use Rattle.definition.specs.Flow.{in_dictionary, has_inline, inline, past, do_in
 use Rattle.definition.specs.Words.{other_word}
 use Rattle.step_changes.specs.Steady.{InOpen, Steady}
 use Rattle.step_changes.specs.Laws.{Quietly, stays, and_then}
-use Rattle.step_changes.proofs.Ranges.{bytes-cell, length-cell}
-use Rattle.step_changes.proofs.Leading.{Leads, leads_ask, leads_if, stayed, with_ip_lem, nth-cell, with_popped, with_popped-returns, with_pushed-returns, with_pushed, replaced_leads}
-use Rattle.step_changes.proofs.Plain.{quiet_if, in-dictionary, low-cell, go_leads, past_steady, exit_leads}
-use Rattle.step_changes.proofs.Changing.{no_marks, change_leads, grown_open, grown_append, appended-quietly, quietly_then}
+use Rattle.step_changes.proofs.Ranges.{bytes_cell, length-cell}
+use Rattle.step_changes.proofs.Leading.{Leads, leads_ask, leads_if, stayed, with_ip_lem, nth_cell, with_popped, with_popped_returns, with_pushed_returns, with_pushed, replaced_leads}
+use Rattle.step_changes.proofs.Plain.{quiet_if, in_dictionary_lem, low_cell, go_leads, past_steady, exit_leads}
+use Rattle.step_changes.proofs.Changing.{no_marks, change_leads, grown_open, grown_append, appended_quietly, quietly_then}
 
 -- the code cell lies right before the first parameter cell
 token_first : (low : List ℕ) (e : ℕ) → token_of low e ≡ first_at low e - 2
@@ -56,22 +56,22 @@ module _ (m : Machine) (s : Steady m) where
 -- a turn of a loop
 turn : (m : Machine) → Steady m → (b : Bool) (n : ℕ) → has_inline m ≡ true → Leads (dict_of m) (quietly (if b then past (popped_returns 3 m) else go_to (inline m) (pushed_returns (wrap (nth_return 0 m + n) ∷ []) (popped_returns 1 m))))
 turn m s b n h =
-    quiet_if m s b _ _ (stays, past_steady (popped_returns 3 m) (with_popped-returns m s 3) h)
-    (go_leads (pushed_returns (wrap (nth_return 0 m + n) ∷ []) (popped_returns 1 m)) (with_pushed-returns (popped_returns 1 m) (with_popped-returns m s 1) (wrap (nth_return 0 m + n) ∷ []) (omega arith, tt)) (inline m) (low-cell m s (ip m)))
+    quiet_if m s b _ _ (stays, past_steady (popped_returns 3 m) (with_popped_returns m s 3) h)
+    (go_leads (pushed_returns (wrap (nth_return 0 m + n) ∷ []) (popped_returns 1 m)) (with_pushed_returns (popped_returns 1 m) (with_popped_returns m s 1) (wrap (nth_return 0 m + n) ∷ []) (omega arith, tt)) (inline m) (low_cell m s (ip m)))
 
 module _ (m : Machine) (s : Steady m) where
   pub inlines_lead : (w : InlineWord) → Given m s w → Leads (dict_of m) (do_inline w m)
   inlines_lead Kernel.lit k =
-      leads_ask _ _ _ (has_room 1 m) _ (λ h. leads_ask _ _ _ (has_inline m) _ (λ g. stayed (pushed (inline m) (past m)) stays (with_pushed (past m) (past_steady m s g) (inline m) (low-cell m s (ip m)) h)))
-  inlines_lead Kernel.branch k = leads_ask _ _ _ (has_inline m) _ (λ g. go_leads m s (inline m) (low-cell m s (ip m)))
+      leads_ask _ _ _ (has_room 1 m) _ (λ h. leads_ask _ _ _ (has_inline m) _ (λ g. stayed (pushed (inline m) (past m)) stays (with_pushed (past m) (past_steady m s g) (inline m) (low_cell m s (ip m)) h)))
+  inlines_lead Kernel.branch k = leads_ask _ _ _ (has_inline m) _ (λ g. go_leads m s (inline m) (low_cell m s (ip m)))
   inlines_lead Kernel.branchIfZero k =
       leads_ask _ _ _ (has_cells 1 m) _ (λ h. leads_ask _ _ _ (has_inline m) _ (λ g.
-      quiet_if m s (eqb (nth 0 m) 0) (go_to (inline m) (popped 1 m)) (past (popped 1 m)) (go_leads (popped 1 m) (with_popped m s 1) (inline m) (low-cell m s (ip m))) (stays, past_steady (popped 1 m) (with_popped m s 1) g)))
+      quiet_if m s (eqb (nth 0 m) 0) (go_to (inline m) (popped 1 m)) (past (popped 1 m)) (go_leads (popped 1 m) (with_popped m s 1) (inline m) (low_cell m s (ip m))) (stays, past_steady (popped 1 m) (with_popped m s 1) g)))
   inlines_lead Kernel.doR k =
       let xs = nth 0 m ∷ nth 1 m ∷ inline m ∷ [] in
       let m' = pushed_returns xs (popped 2 m) in
       leads_ask _ _ _ (has_cells 2 m) _ (λ h. leads_ask _ _ _ (has_return_room 3 m) _ (λ r. leads_ask _ _ _ (has_inline m) _ (λ g.
-      stayed (past m') stays (past_steady m' (with_pushed-returns (popped 2 m) (with_popped m s 2) xs (nth-cell m s 0, (nth-cell m s 1, (low-cell m s (ip m), tt)))) g))))
+      stayed (past m') stays (past_steady m' (with_pushed_returns (popped 2 m) (with_popped m s 2) xs (nth_cell m s 0, (nth_cell m s 1, (low_cell m s (ip m), tt)))) g))))
   inlines_lead Kernel.loopR k = leads_ask _ _ _ (has_returns 3 m) _ (λ h. leads_ask _ _ _ (has_inline m) _ (λ g. turn m s _ 1 g))
   inlines_lead Kernel.plusLoopR k =
       leads_ask _ _ _ (has_cells 1 m) _ (λ c. leads_ask _ _ _ (has_returns 3 m) _ (λ h. leads_ask _ _ _ (has_inline m) _ (λ g. turn (popped 1 m) (with_popped m s 1) _ (nth 0 m) g)))
@@ -86,12 +86,12 @@ module _ (m : Machine) (s : Steady m) where
   inlines_lead Kernel.typeText k =
       let n = at m.low (ip m) in
       leads_ask _ _ _ (in_dictionary (ip m) 1 m) _ (λ h. leads_ask _ _ _ (in_dictionary (ip m) (n + 1) m) _ (λ g.
-      stayed (with_ip (ip m + n + 1) m) stays (with_ip_lem m s (ip m + n + 1) (omega (arith, in-dictionary m s (ip m) (n + 1) g)))))
+      stayed (with_ip (ip m + n + 1) m) stays (with_ip_lem m s (ip m + n + 1) (omega (arith, in_dictionary_lem m s (ip m) (n + 1) g)))))
   inlines_lead Kernel.compile k =
       let bs = cell (inline m) in
       leads_ask _ _ _ (fits 2 m) _ (λ h. leads_ask _ _ _ (has_inline m) _ (λ g.
       change_leads (past m) (past_steady m s g) (appended bs) m.stacks.marks refl
-      (appended-quietly (dict_of m) s.came k bs (bytes-cell (inline m) (low-cell m s (ip m))) (omega (arith, length-cell (inline m), leb-true (dp m + 2) 32768 h)))
+      (appended_quietly (dict_of m) s.came k bs (bytes_cell (inline m) (low_cell m s (ip m))) (omega (arith, length-cell (inline m), leb-true (dp m + 2) 32768 h)))
       (λ c. k) (All-weaker (InOpen (dict_of m)) (InOpen (appended bs (dict_of m))) (grown_open (grown_append (dict_of m) s.came k bs)) m.stacks.marks s.marks)))
 
 -- a vocabulary of the chain
@@ -108,12 +108,12 @@ module _ (m : Machine) (s : Steady m) where
 
   pub other_leads : (code t : ℕ) → in_dictionary t 2 m ≡ true → Leads (dict_of m) (other_word code t m)
   other_leads code t d =
-      leads_if _ (eqb code 201) _ _ (λ e. leads_ask _ _ _ (has_return_room 1 m) _ (λ h. go_leads (pushed_returns (ip m ∷ []) m) (with_pushed-returns m s (ip m ∷ []) (s.pointer, tt)) (t + 4) (omega (arith, in-dictionary m s t 2 d))))
-      (λ e. leads_if _ (eqb code 202) _ _ (λ e. leads_ask _ _ _ (in_dictionary t 4 m) _ (λ h. replaced_leads m s 0 (cell_at m.low (t + 2) ∷ []) (low-cell m s (t + 2), tt)))
-      (λ e. leads_if _ (eqb code 203) _ _ (λ e. leads_ask _ _ _ (in_dictionary t 6 m) _ (λ h. replaced_leads m s 0 (cell_at m.low (t + 4) ∷ []) (low-cell m s (t + 4), tt)))
+      leads_if _ (eqb code 201) _ _ (λ e. leads_ask _ _ _ (has_return_room 1 m) _ (λ h. go_leads (pushed_returns (ip m ∷ []) m) (with_pushed_returns m s (ip m ∷ []) (s.pointer, tt)) (t + 4) (omega (arith, in_dictionary_lem m s t 2 d))))
+      (λ e. leads_if _ (eqb code 202) _ _ (λ e. leads_ask _ _ _ (in_dictionary t 4 m) _ (λ h. replaced_leads m s 0 (cell_at m.low (t + 2) ∷ []) (low_cell m s (t + 2), tt)))
+      (λ e. leads_if _ (eqb code 203) _ _ (λ e. leads_ask _ _ _ (in_dictionary t 6 m) _ (λ h. replaced_leads m s 0 (cell_at m.low (t + 4) ∷ []) (low_cell m s (t + 4), tt)))
       (λ e. leads_if _ (eqb code 204) _ _
       (λ e. leads_ask _ _ _ (in_dictionary t 14 m) _ (λ h. leads_ask _ _ _ (is_chain (dict_of m)) _ (λ g. leads_ask _ _ _ (on_chain (t + 4) (dict_of m) && seeks.stays (t + 4) (dict_of m)) _ (λ f. seek-leads (t + 4) (and_parts (on_chain (t + 4) (dict_of m)) (seeks.stays (t + 4) (dict_of m)) f).0))))
       (λ e. leads_if _ (eqb code 205) _ _
       (λ e. leads_ask _ _ _ (in_dictionary t 6 m) _ (λ h. leads_ask _ _ _ (has_room 1 m) _ (λ g. leads_ask _ _ _ (has_return_room 1 m) _ (λ f.
-      go_leads (pushed_returns (ip m ∷ []) (pushed (cell_at m.low (t + 2)) m)) (with_pushed-returns (pushed (cell_at m.low (t + 2)) m) (with_pushed m s (cell_at m.low (t + 2)) (low-cell m s (t + 2)) g) (ip m ∷ []) (s.pointer, tt)) (cell_at m.low (t + 4)) (low-cell m s (t + 4))))))
+      go_leads (pushed_returns (ip m ∷ []) (pushed (cell_at m.low (t + 2)) m)) (with_pushed_returns (pushed (cell_at m.low (t + 2)) m) (with_pushed m s (cell_at m.low (t + 2)) (low_cell m s (t + 2)) g) (ip m ∷ []) (s.pointer, tt)) (cell_at m.low (t + 4)) (low_cell m s (t + 4))))))
       (λ e. tt)))))

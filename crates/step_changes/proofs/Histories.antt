@@ -22,25 +22,25 @@ use Rattle.definition.specs.Step.{Outcome, step}
 use Rattle.step_changes.specs.Steady.{StoreHolds, Steady}
 use Rattle.step_changes.specs.Laws as laws
 use Rattle.step_changes.specs.Laws.{Quiet, Quietly, Begins, Turns, Stepped, Moment, goes, finishes, faults, given, aborts, changes_store, History, Forgot, Ends, Stands, outlives, StepForgets, SteadyAlways, CompilesOpen, MarksInside}
-use Rattle.step_changes.proofs.Ranges.{bytes-cell, bytes-replicate, length-cell}
+use Rattle.step_changes.proofs.Ranges.{bytes_cell, bytes_replicate, length-cell}
 use Rattle.step_changes.proofs.Leading.{with_text_lem}
 use Rattle.step_changes.proofs.Buffering.{with_store_lem}
 use Rattle.step_changes.proofs.Stepping.{cleared_steady, step_changes}
 
 -- boot
 
-boot-here : boot_dict.here ≡ 34048
+boot_here : boot_dict.here ≡ 34048
 unfolding boot_dict with_kernel table.kernel forth_alone
-boot-here = refl
+boot_here = refl
 
-boot-space : length (cell 10 ++ zeros 1278) ≡ 1280
-boot-space = length-append (cell 10) (zeros 1278) ∙ omega (arith, length-cell 10, length-replicate {A = ℕ} 1278 0)
+boot_space : length (cell 10 ++ zeros 1278) ≡ 1280
+boot_space = length-append (cell 10) (zeros 1278) ∙ omega (arith, length-cell 10, length-replicate {A = ℕ} 1278 0)
 
 boot_dict_lem : (s : Meaning) → dict_of (boot s) ≡ boot_dict
 unfolding boot
 boot_dict_lem s =
     let D = boot_dict in
-    let e : 32768 + length (cell 10 ++ zeros 1278) ≡ D.here = omega (arith, boot-space, boot-here) in
+    let e : 32768 + length (cell 10 ++ zeros 1278) ≡ D.here = omega (arith, boot_space, boot_here) in
     λ i. record { low = D.low; here = e i; newest = D.newest; voc_link = D.voc_link; context = D.context; current = D.current; opened = D.opened }
 
 pub boot_steady : (s : Meaning) → StoreHolds s → Steady (boot s)
@@ -50,23 +50,23 @@ boot_steady s h = record {
   compiles = λ c. absurd (false≢true c);
   marks = tt;
   stacks = record { cells = tt; depth = omega arith; returns = tt };
-  text = record { line = bytes-replicate 128 0 (lit< tt); reads = lit< tt; loads = tt };
-  space = record { bytes = append-bytes (cell 10) (zeros 1278) (bytes-cell 10 (lit< tt)) (bytes-replicate 1278 0 (lit< tt)); long = omega (arith, boot-space); short = omega (arith, boot-space) };
+  text = record { line = bytes_replicate 128 0 (lit< tt); reads = lit< tt; loads = tt };
+  space = record { bytes = append-bytes (cell 10) (zeros 1278) (bytes_cell 10 (lit< tt)) (bytes_replicate 1278 0 (lit< tt)); long = omega (arith, boot_space); short = omega (arith, boot_space) };
   pointer = lit< tt;
   store = h;
 }
 
 -- each moment keeps a machine steady
 
-at-step : (m : Machine) → Steady m → (o : Outcome) → step m ≡ o → Stepped m o
-at-step m s o e = subst (Stepped m) e (step_changes m s)
+at_step : (m : Machine) → Steady m → (o : Outcome) → step m ≡ o → Stepped m o
+at_step m s o e = subst (Stepped m) e (step_changes m s)
 
 moment_steady : {a b : Machine} → Steady a → Moment a b → Steady b
-moment_steady {a} s (goes f p) = (at-step a s (Step.went f) p).1
-moment_steady {a} s (finishes m' p) = subst Steady (sym (at-step a s (Step.finished m') p)) s
-moment_steady {a} s (faults why m' p) = (at-step a s (Step.failed why m') p).1
+moment_steady {a} s (goes f p) = (at_step a s (Step.went f) p).1
+moment_steady {a} s (finishes m' p) = subst Steady (sym (at_step a s (Step.finished m') p)) s
+moment_steady {a} s (faults why m' p) = (at_step a s (Step.failed why m') p).1
 moment_steady {a} s (given text b l) =
-    with_text_lem a s _ (record { line = append-bytes text (zeros (128 - length text)) b (bytes-replicate (128 - length text) 0 (lit< tt)); reads = lit< tt; loads = s.text.loads })
+    with_text_lem a s _ (record { line = append-bytes text (zeros (128 - length text)) b (bytes_replicate (128 - length text) 0 (lit< tt)); reads = lit< tt; loads = s.text.loads })
 moment_steady {a} s aborts = cleared_steady a a s (record { dictionary = refl; space = refl; line = refl; blocks = inl (refl, refl) })
 moment_steady {a} s (changes_store d h) = with_store_lem a s a.buffer.held a.buffer.updated d h
 
@@ -80,8 +80,8 @@ steady_always s m h k = history_steady (boot_steady s h) k
 pub compiles_open : CompilesOpen
 compiles_open s m h k = (steady_always s m h k).compiles
 
-pub marks-inside : MarksInside
-marks-inside s m h k = (steady_always s m h k).marks
+pub marks_inside : MarksInside
+marks_inside s m h k = (steady_always s m h k).marks
 
 -- the word w outlives
 
@@ -136,9 +136,9 @@ unfolding changedBy
 keeps_given_up w A D k l = and_still give_up k tt l
 
 keeps_moment : (w : ℕ) (A : Dict) {a b : Machine} → Steady a → Keeps w A (dict_of a) → (k : Moment a b) → ¬ Ends w k → Keeps w A (dict_of b)
-keeps_moment w A {a} s k (goes f p) l = keeps_turn w A (dict_of a) (dict_of f.machine) f.news k (at-step a s (Step.went f) p).0 l
-keeps_moment w A {a} s k (finishes m' p) l = subst (λ m. Keeps w A (dict_of m)) (sym (at-step a s (Step.finished m') p)) k
-keeps_moment w A {a} s k (faults why m' p) l = subst (Keeps w A) (sym (at-step a s (Step.failed why m') p).0) (keeps_given_up w A (dict_of a) k l)
+keeps_moment w A {a} s k (goes f p) l = keeps_turn w A (dict_of a) (dict_of f.machine) f.news k (at_step a s (Step.went f) p).0 l
+keeps_moment w A {a} s k (finishes m' p) l = subst (λ m. Keeps w A (dict_of m)) (sym (at_step a s (Step.finished m') p)) k
+keeps_moment w A {a} s k (faults why m' p) l = subst (Keeps w A) (sym (at_step a s (Step.failed why m') p).0) (keeps_given_up w A (dict_of a) k l)
 keeps_moment w A {a} s k (given text b n) l = k
 keeps_moment w A {a} s k aborts l = keeps_given_up w A (dict_of a) k l
 keeps_moment w A {a} s k (changes_store d h) l = k
@@ -158,15 +158,15 @@ begun_as D E n e p t = subst (λ n. Turns n D E) p t
 forgot_as : (D E : Dict) (n : News) (e : ℕ) → n ≡ forgot e → Turns n D E → Allowed fence (forget e) D × (E ≡ forgotten e D)
 forgot_as D E n e p t = subst (λ n. Turns n D E) p t
 
-pub step-forgets : StepForgets
-step-forgets e before found begun done t =
+pub step_forgets : StepForgets
+step_forgets e before found begun done t =
     let s = history_steady (boot_steady t.store t.store_holds) t.history in
-    let p = at-step before s (Step.went begun) t.begins in
+    let p = at_step before s (Step.went begun) t.begins in
     let b = begun_as (dict_of before) (dict_of begun.machine) begun.news e t.word p.0 in
     let A = changedBy b.change (dict_of before) in
     let k : Standing e A begun.machine = (p.1, keeps_behind e A (dict_of before) (dict_of begun.machine) b.change still b.behind) in
     let f = keeps_standing e A k t.standing in
-    let q = at-step found f.0 (Step.went done) t.forgets in
+    let q = at_step found f.0 (Step.went done) t.forgets in
     let g = forgot_as (dict_of found) (dict_of done.machine) done.news e t.gone q.0 in
     let r = forgets (dict_of before) (dict_of found) (record {
       before = s.came;

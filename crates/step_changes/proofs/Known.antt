@@ -8,7 +8,7 @@ use Rattle.forgetting.specs.Law.{fence, Run}
 use Rattle.forgetting.proofs.Stack.{Stack, base, push, Good, image}
 use Rattle.forgetting.proofs.Spacing as spacing
 use Rattle.forgetting.proofs.Trims.{whole, append-bytes}
-use Rattle.forgetting.proofs.Chains.{low-long, link_low}
+use Rattle.forgetting.proofs.Chains.{low_long, link_low}
 use Rattle.forgetting.proofs.Shape.{Shape, shut, opened, Fit}
 use Rattle.forgetting.proofs.Steps.{open_first, open_long}
 use Rattle.forgetting.proofs.Whole.{run_fit}
@@ -32,7 +32,7 @@ from_shape : (D : Dict) (x : Shape) → Fit fence D x → Known D
 from_shape D (shut m) f =
     let e : dp D ≡ spacing.dp m = ap length f.low_is in record {
       bytes = subst Bytes (sym f.low_is) (whole m f.good);
-      long = omega (arith, low-long m f.good);
+      long = omega (arith, low_long m f.good);
       room = omega (arith, stack_room m f.good);
       link = omega (arith, f.link_is, link_low m f.good, stack_room m f.good);
       first = λ n. absurd (n f.open_is);
@@ -41,7 +41,7 @@ from_shape D (opened e m) f =
     let l = open_long fence D e m f in
     let g = spacing.length_grow e (image m) in record {
       bytes = subst Bytes (sym f.low_is) (append-bytes _ _ (whole m f.good) f.fits.whole);
-      long = omega (arith, low-long m f.good);
+      long = omega (arith, low_long m f.good);
       room = omega (arith, f.fits.room);
       link = omega (arith, f.link_is, link_low m f.good, stack_room m f.good);
       first = λ n. omega (arith, open_first fence D e m f);

@@ -97,8 +97,8 @@ module _ (m : Machine) (s : Steady m) where
     store = s.store;
   }
 
-  pub nth-cell : (k : ℕ) → nth k m < 65536
-  nth-cell k = all_or (λ x. x < 65536) m.stacks.cells k 0 (omega arith) s.stacks.cells
+  pub nth_cell : (k : ℕ) → nth k m < 65536
+  nth_cell k = all_or (λ x. x < 65536) m.stacks.cells k 0 (omega arith) s.stacks.cells
 
   pub nth_return_lem : (k : ℕ) → nth_return k m < 65536
   nth_return_lem k = all_or (λ x. x < 65536) m.stacks.returns k 0 (omega arith) s.stacks.returns
@@ -106,11 +106,11 @@ module _ (m : Machine) (s : Steady m) where
   pub with_popped : (n : ℕ) → Steady (popped n m)
   with_popped n = with_cells_lem (drop n m.stacks.cells) (All-drop (λ x. x < 65536) n m.stacks.cells s.stacks.cells) (simp length-drop (omega (arith, s.stacks.depth)))
 
-  pub with_popped-returns : (n : ℕ) → Steady (popped_returns n m)
-  with_popped-returns n = with_returns_lem (drop n m.stacks.returns) (All-drop (λ x. x < 65536) n m.stacks.returns s.stacks.returns)
+  pub with_popped_returns : (n : ℕ) → Steady (popped_returns n m)
+  with_popped_returns n = with_returns_lem (drop n m.stacks.returns) (All-drop (λ x. x < 65536) n m.stacks.returns s.stacks.returns)
 
-  pub with_pushed-returns : (xs : List ℕ) → Cells xs → Steady (pushed_returns xs m)
-  with_pushed-returns xs h = with_returns_lem (xs ++ m.stacks.returns) (All-append (λ x. x < 65536) xs m.stacks.returns h s.stacks.returns)
+  pub with_pushed_returns : (xs : List ℕ) → Cells xs → Steady (pushed_returns xs m)
+  with_pushed_returns xs h = with_returns_lem (xs ++ m.stacks.returns) (All-append (λ x. x < 65536) xs m.stacks.returns h s.stacks.returns)
 
   pub with_pushed : (x : ℕ) → x < 65536 → has_room 1 m ≡ true → Steady (pushed x m)
   with_pushed x h r = with_cells_lem (x ∷ m.stacks.cells) (h, s.stacks.cells) (omega (arith, leb-true _ _ r))

@@ -21,7 +21,7 @@ use Rattle.step_changes.specs.Steady.{Cells, Steady}
 use Rattle.step_changes.specs.Laws.{stays}
 use Rattle.step_changes.proofs.Known.{known}
 use Rattle.step_changes.proofs.Ranges.{cell_below}
-use Rattle.step_changes.proofs.Leading.{Leads, leads_ask, stayed, with_cells_lem, with_returns_lem, with_ip_lem, nth-cell, nth_return_lem, with_popped, with_popped-returns, with_pushed-returns, with_pushed, replaced_leads}
+use Rattle.step_changes.proofs.Leading.{Leads, leads_ask, stayed, with_cells_lem, with_returns_lem, with_ip_lem, nth_cell, nth_return_lem, with_popped, with_popped_returns, with_pushed_returns, with_pushed, replaced_leads}
 
 -- words on data cells whose functions make cells of cells
 abbrev pub MakesCells : CellsWord → Type 0
@@ -67,11 +67,11 @@ module _ (m : Machine) (s : Steady m) where
 
   pub cells_lead : (w : CellsWord) → MakesCells w → Leads (dict_of m) (do_cells w m)
   cells_lead (Kernel.leaves f) k = replaced_leads m s 0 (f m ∷ []) (k m s, tt)
-  cells_lead (Kernel.one f) k = leads_ask _ _ _ (has_cells 1 m) _ (λ h. replaced_leads m s 1 (f (nth 0 m)) (k (nth 0 m) (nth-cell m s 0)))
+  cells_lead (Kernel.one f) k = leads_ask _ _ _ (has_cells 1 m) _ (λ h. replaced_leads m s 1 (f (nth 0 m)) (k (nth 0 m) (nth_cell m s 0)))
   cells_lead (Kernel.two f) k =
-      leads_ask _ _ _ (has_cells 2 m) _ (λ h. replaced_leads m s 2 (f (nth 1 m) (nth 0 m)) (k (nth 1 m) (nth 0 m) (nth-cell m s 1) (nth-cell m s 0)))
+      leads_ask _ _ _ (has_cells 2 m) _ (λ h. replaced_leads m s 2 (f (nth 1 m) (nth 0 m)) (k (nth 1 m) (nth 0 m) (nth_cell m s 1) (nth_cell m s 0)))
   cells_lead (Kernel.three f) k =
-      leads_ask _ _ _ (has_cells 3 m) _ (λ h. replaced_leads m s 3 (f (nth 2 m) (nth 1 m) (nth 0 m)) (k (nth 2 m) (nth 1 m) (nth 0 m) (nth-cell m s 2) (nth-cell m s 1) (nth-cell m s 0)))
+      leads_ask _ _ _ (has_cells 3 m) _ (λ h. replaced_leads m s 3 (f (nth 2 m) (nth 1 m) (nth 0 m)) (k (nth 2 m) (nth 1 m) (nth 0 m) (nth_cell m s 2) (nth_cell m s 1) (nth_cell m s 0)))
   cells_lead (Kernel.divide f) k =
       let d = floored (signed (nth 1 m)) (signed (nth 0 m)) in
       let i = divided_in (signed (nth 1 m)) (signed (nth 0 m)) in
@@ -81,7 +81,7 @@ module _ (m : Machine) (s : Steady m) where
       let i = divided_in (product (nth 2 m) (nth 1 m)) (signed (nth 0 m)) in
       leads_ask _ _ _ (has_cells 3 m) _ (λ h. leads_ask _ _ _ d.fits _ (λ g. replaced_leads m s 3 (d.quotient ∷ []) (i.0, tt)))
   cells_lead Kernel.pick k =
-      leads_ask _ _ _ (has_cells 1 m) _ (λ h. leads_ask _ _ _ (has_cells (nth 0 m + 2) m) _ (λ g. replaced_leads m s 1 (nth (nth 0 m + 1) m ∷ []) (nth-cell m s (nth 0 m + 1), tt)))
+      leads_ask _ _ _ (has_cells 1 m) _ (λ h. leads_ask _ _ _ (has_cells (nth 0 m + 2) m) _ (λ g. replaced_leads m s 1 (nth (nth 0 m + 1) m ∷ []) (nth_cell m s (nth 0 m + 1), tt)))
   cells_lead Kernel.roll k =
       let t = drop 1 m.stacks.cells in
       leads_ask _ _ _ (has_cells 1 m) _ (λ h. leads_ask _ _ _ (has_cells (nth 0 m + 2) m) _ (λ g.
@@ -111,11 +111,11 @@ module _ (m : Machine) (s : Steady m) where
   quiet_if true x y p q = p
   quiet_if false x y p q = q
 
-  pub in-dictionary : (a n : ℕ) → in_dictionary a n m ≡ true → a + n ≤ 32768
-  in-dictionary a n h = omega (arith, leb-true (a + n) (dp m) (and_parts (leb 256 a) (leb (a + n) (dp m)) h).1, (known (dict_of m) s.came).room)
+  pub in_dictionary_lem : (a n : ℕ) → in_dictionary a n m ≡ true → a + n ≤ 32768
+  in_dictionary_lem a n h = omega (arith, leb-true (a + n) (dp m) (and_parts (leb 256 a) (leb (a + n) (dp m)) h).1, (known (dict_of m) s.came).room)
 
-  pub low-cell : (a : ℕ) → cell_at m.low a < 65536
-  low-cell a = cell_below m.low a (known (dict_of m) s.came).bytes
+  pub low_cell : (a : ℕ) → cell_at m.low a < 65536
+  low_cell a = cell_below m.low a (known (dict_of m) s.came).bytes
 
 -- IP goes to an address
 pub go_leads : (m : Machine) → Steady m → (a : ℕ) → a < 65536 → Leads (dict_of m) (quietly (go_to a m))
@@ -123,21 +123,21 @@ go_leads m s a h = quiet_if m s (eqb a 0) _ _ (stays, with_ip_lem (with_returns 
 
 module _ (m : Machine) (s : Steady m) where
   pub past_steady : has_inline m ≡ true → Steady (past m)
-  past_steady h = with_ip_lem m s (ip m + 2) (omega (arith, in-dictionary m s (ip m) 2 h))
+  past_steady h = with_ip_lem m s (ip m + 2) (omega (arith, in_dictionary_lem m s (ip m) 2 h))
 
   pub exit_leads : Leads (dict_of m) (quietly (go_to (nth_return 0 m) (popped_returns 1 m)))
-  exit_leads = go_leads (popped_returns 1 m) (with_popped-returns m s 1) (nth_return 0 m) (nth_return_lem m s 0)
+  exit_leads = go_leads (popped_returns 1 m) (with_popped_returns m s 1) (nth_return 0 m) (nth_return_lem m s 0)
 
-  pub returns-lead : (w : ReturnsWord) → Leads (dict_of m) (do_returns w m)
-  returns-lead Kernel.exit = leads_ask _ _ _ (has_returns 1 m) _ (λ h. exit_leads)
-  returns-lead Kernel.to_r =
+  pub returns_lead : (w : ReturnsWord) → Leads (dict_of m) (do_returns w m)
+  returns_lead Kernel.exit = leads_ask _ _ _ (has_returns 1 m) _ (λ h. exit_leads)
+  returns_lead Kernel.to_r =
       leads_ask _ _ _ (has_cells 1 m) _ (λ h. leads_ask _ _ _ (has_return_room 1 m) _ (λ g.
-      stayed (pushed_returns (nth 0 m ∷ []) (popped 1 m)) stays (with_pushed-returns (popped 1 m) (with_popped m s 1) (nth 0 m ∷ []) (nth-cell m s 0, tt))))
-  returns-lead Kernel.fromR =
+      stayed (pushed_returns (nth 0 m ∷ []) (popped 1 m)) stays (with_pushed_returns (popped 1 m) (with_popped m s 1) (nth 0 m ∷ []) (nth_cell m s 0, tt))))
+  returns_lead Kernel.fromR =
       leads_ask _ _ _ (has_room 1 m) _ (λ h. leads_ask _ _ _ (has_returns 1 m) _ (λ g.
-      stayed (pushed (nth_return 0 m) (popped_returns 1 m)) stays (with_pushed (popped_returns 1 m) (with_popped-returns m s 1) (nth_return 0 m) (nth_return_lem m s 0) h)))
-  returns-lead (Kernel.copy_at k) =
+      stayed (pushed (nth_return 0 m) (popped_returns 1 m)) stays (with_pushed (popped_returns 1 m) (with_popped_returns m s 1) (nth_return 0 m) (nth_return_lem m s 0) h)))
+  returns_lead (Kernel.copy_at k) =
       leads_ask _ _ _ (has_room 1 m) _ (λ h. leads_ask _ _ _ (has_returns (k + 1) m) _ (λ g.
       stayed (pushed (nth_return k m) m) stays (with_pushed m s (nth_return k m) (nth_return_lem m s k) h)))
-  returns-lead Kernel.leave =
-      leads_ask _ _ _ (has_returns 3 m) _ (λ h. go_leads (popped_returns 3 m) (with_popped-returns m s 3) (nth_return 2 m) (nth_return_lem m s 2))
+  returns_lead Kernel.leave =
+      leads_ask _ _ _ (has_returns 3 m) _ (λ h. go_leads (popped_returns 3 m) (with_popped_returns m s 3) (nth_return 2 m) (nth_return_lem m s 2))

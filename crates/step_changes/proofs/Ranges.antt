@@ -12,33 +12,33 @@ all_or P [] k d p a = p
 all_or P (x ∷ xs) zero d p a = a.0
 all_or P (x ∷ xs) (suc k) d p a = all_or P xs k d p a.1
 
-pub bytes-none : Bytes []
-bytes-none a = omega arith
+pub bytes_none : Bytes []
+bytes_none a = omega arith
 
 pub bytes_more : (b : ℕ) (bs : List ℕ) → b < 256 → Bytes bs → Bytes (b ∷ bs)
 bytes_more b bs h k zero = h
 bytes_more b bs h k (suc a) = k a
 
-pub bytes-behind : (b : ℕ) (bs : List ℕ) → Bytes (b ∷ bs) → Bytes bs
-bytes-behind b bs k a = k (suc a)
+pub bytes_behind : (b : ℕ) (bs : List ℕ) → Bytes (b ∷ bs) → Bytes bs
+bytes_behind b bs k a = k (suc a)
 
-pub bytes-cell : (x : ℕ) → x < 65536 → Bytes (cell x)
+pub bytes_cell : (x : ℕ) → x < 65536 → Bytes (cell x)
 unfolding cell
-bytes-cell x h = bytes_more (x % 256) (x / 256 ∷ []) (omega arith) (bytes_more (x / 256) [] (omega arith) bytes-none)
+bytes_cell x h = bytes_more (x % 256) (x / 256 ∷ []) (omega arith) (bytes_more (x / 256) [] (omega arith) bytes_none)
 
 pub bytes_take : (n : ℕ) (bs : List ℕ) → Bytes bs → Bytes (take n bs)
 bytes_take zero bs h a = omega arith
 bytes_take (suc n) [] h a = omega arith
 bytes_take (suc n) (b ∷ bs) h zero = h zero
-bytes_take (suc n) (b ∷ bs) h (suc a) = bytes_take n bs (bytes-behind b bs h) a
+bytes_take (suc n) (b ∷ bs) h (suc a) = bytes_take n bs (bytes_behind b bs h) a
 
 pub bytes_drop : (n : ℕ) (bs : List ℕ) → Bytes bs → Bytes (drop n bs)
 bytes_drop n bs h a = rw (get_or-drop n bs a 0) (h (n + a))
 
-pub bytes-replicate : (n b : ℕ) → b < 256 → Bytes (replicate n b)
-bytes-replicate zero b h a = omega arith
-bytes-replicate (suc n) b h zero = h
-bytes-replicate (suc n) b h (suc a) = bytes-replicate n b h a
+pub bytes_replicate : (n b : ℕ) → b < 256 → Bytes (replicate n b)
+bytes_replicate zero b h a = omega arith
+bytes_replicate (suc n) b h zero = h
+bytes_replicate (suc n) b h (suc a) = bytes_replicate n b h a
 
 pub cell_below : (bs : List ℕ) (a : ℕ) → Bytes bs → cell_at bs a < 65536
 unfolding cell_at
@@ -59,14 +59,14 @@ module _ (n : ℕ) (new xs : List ℕ) where
   unfolding overwritten
   bytes_put p q = append-bytes _ _ (bytes_take n xs q) (append-bytes _ _ p (bytes_drop (n + length new) xs q))
 
-pub bytes-set : (xs : List ℕ) (i b : ℕ) → b < 256 → Bytes xs → Bytes (set xs i b)
-bytes-set [] i b h k a = omega arith
-bytes-set (x ∷ xs) zero b h k zero = h
-bytes-set (x ∷ xs) zero b h k (suc a) = k (suc a)
-bytes-set (x ∷ xs) (suc i) b h k zero = k zero
-bytes-set (x ∷ xs) (suc i) b h k (suc a) = bytes-set xs i b h (bytes-behind x xs k) a
+pub bytes_set : (xs : List ℕ) (i b : ℕ) → b < 256 → Bytes xs → Bytes (set xs i b)
+bytes_set [] i b h k a = omega arith
+bytes_set (x ∷ xs) zero b h k zero = h
+bytes_set (x ∷ xs) zero b h k (suc a) = k (suc a)
+bytes_set (x ∷ xs) (suc i) b h k zero = k zero
+bytes_set (x ∷ xs) (suc i) b h k (suc a) = bytes_set xs i b h (bytes_behind x xs k) a
 
 pub bytes_moved : (n from to : ℕ) (xs : List ℕ) → Bytes xs → Bytes (moved_up n from to xs)
 unfolding moved_up
 bytes_moved zero from to xs h = h
-bytes_moved (suc n) from to xs h = let k = bytes_moved n from to xs h in bytes-set (moved_up n from to xs) (to + n) (get_or (moved_up n from to xs) (from + n) 0) (k (from + n)) k
+bytes_moved (suc n) from to xs h = let k = bytes_moved n from to xs h in bytes_set (moved_up n from to xs) (to + n) (get_or (moved_up n from to xs) (from + n) 0) (k (from + n)) k

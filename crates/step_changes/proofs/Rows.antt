@@ -68,8 +68,8 @@ either_number : (b : Bool) (x y : ℕ) → x < 65536 → y < 65536 → numbers.i
 either_number true x y p q = p
 either_number false x y p q = q
 
-magnitude-cell : (a : ℕ) → a < 65536 → magnitude a < 65536
-magnitude-cell a h = go (is_negative a) refl
+magnitude_cell : (a : ℕ) → a < 65536 → magnitude a < 65536
+magnitude_cell a h = go (is_negative a) refl
   where
     go : (b : Bool) → is_negative a ≡ b → numbers.if◌then◌else◌ b (65536 - a) a < 65536
     go true e = omega (arith, leb-true 32768 a e)
@@ -121,7 +121,7 @@ stack_proper = (
                                       (
                                         (λ a s f k. λ x h. (omega arith, tt)),
                                         (
-                                          (λ a s f k. λ x h. (magnitude-cell x h, tt)),
+                                          (λ a s f k. λ x h. (magnitude_cell x h, tt)),
                                           (
                                             (λ a s f k. λ x y h k. (either_cell _ y x k h, tt)),
                                             (

@@ -20,8 +20,8 @@ use Rattle.definition.specs.Stacks.{nth, popped, has_cells}
 use Rattle.definition.specs.Space.{in_reach, stored, has_newest, do_space}
 use Rattle.step_changes.specs.Steady.{InOpen, Steady}
 use Rattle.step_changes.specs.Laws.{Quietly, stays, and_then}
-use Rattle.step_changes.proofs.Ranges.{bytes-cell, bytes_take, bytes-replicate, cell_below, length-cell, length_put, bytes_put, bytes_moved}
-use Rattle.step_changes.proofs.Leading.{Leads, leads_ask, with_high_lem, same_dict, nth-cell, with_popped, replaced_leads}
+use Rattle.step_changes.proofs.Ranges.{bytes_cell, bytes_take, bytes_replicate, cell_below, length-cell, length_put, bytes_put, bytes_moved}
+use Rattle.step_changes.proofs.Leading.{Leads, leads_ask, with_high_lem, same_dict, nth_cell, with_popped, replaced_leads}
 
 -- other bytes of data space, and HERE as it was
 pub high_leads : (m : Machine) → Steady m → (xs : List ℕ) → Bytes xs → length xs ≡ length m.high → Quietly (dict_of m) (dict_of (with_high xs m)) × Steady (with_high xs m)
@@ -62,16 +62,16 @@ module _ (m : Machine) (s : Steady m) where
   high-cell : (a : ℕ) → cell_at m.high a < 65536
   high-cell a = cell_below m.high a s.space.bytes
 
-short-bytes : (n x : ℕ) → length (take n (cell x)) ≤ n
-short-bytes n x = simp length-take (omega arith)
+short_bytes : (n x : ℕ) → length (take n (cell x)) ≤ n
+short_bytes n x = simp length-take (omega arith)
 
 -- data space of another length
-resized-long : (n : ℕ) (xs : List ℕ) → length (take n xs ++ zeros (n - length xs)) ≡ n
-resized-long n xs = simp (length-append, length-take, length-replicate) (omega arith)
+resized_long : (n : ℕ) (xs : List ℕ) → length (take n xs ++ zeros (n - length xs)) ≡ n
+resized_long n xs = simp (length-append, length-take, length-replicate) (omega arith)
 
-lowest-above : (b : Bool) (x a : ℕ) → (if b then max 34048 x else 34048) ≤ a → 34048 ≤ a
-lowest-above true x a h = omega arith
-lowest-above false x a h = h
+lowest_above : (b : Bool) (x a : ℕ) → (if b then max 34048 x else 34048) ≤ a → 34048 ≤ a
+lowest_above true x a h = omega arith
+lowest_above false x a h = h
 
 module _ (m : Machine) (s : Steady m) where
   fetched-cell : (b : Bool) (a : ℕ) → (if b then at m.high a else cell_at m.high a) < 65536
@@ -94,30 +94,30 @@ module _ (m : Machine) (s : Steady m) where
       leads_ask _ _ _ (has_cells 1 m) _ (λ h. leads_ask _ _ _ (in_reach (nth 0 m) n m) _ (λ g. replaced_leads m s 1 ((if eqb n 1 then at m.high (nth 0 m - 32768) else cell_at m.high (nth 0 m - 32768)) ∷ []) (fetched-cell (eqb n 1) (nth 0 m - 32768), tt)))
   space_leads (Kernel.stores n) z =
       leads_ask _ _ _ (has_cells 2 m) _ (λ h. leads_ask _ _ _ (in_reach (nth 0 m) n m) _ (λ g.
-      stored-leads (popped 2 m) (with_popped m s 2) (nth 0 m) n (take n (cell (nth 1 m))) (bytes_take n _ (bytes-cell (nth 1 m) (nth-cell m s 1))) (short-bytes n (nth 1 m)) g))
+      stored-leads (popped 2 m) (with_popped m s 2) (nth 0 m) n (take n (cell (nth 1 m))) (bytes_take n _ (bytes_cell (nth 1 m) (nth_cell m s 1))) (short_bytes n (nth 1 m)) g))
   space_leads (Kernel.appends n) z =
       leads_ask _ _ _ (has_cells 1 m) _ (λ h. leads_ask _ _ _ (leb (here m + n) 65535) _ (λ g.
-      here_leads (popped 1 m) (with_popped m s 1) z (m.high ++ take n (cell (nth 0 m))) (append-bytes _ _ s.space.bytes (bytes_take n _ (bytes-cell (nth 0 m) (nth-cell m s 0))))
-      (simp length-append (omega (arith, s.space.long))) (simp length-append (omega (arith, leb-true (here m + n) 65535 g, short-bytes n (nth 0 m))))))
+      here_leads (popped 1 m) (with_popped m s 1) z (m.high ++ take n (cell (nth 0 m))) (append-bytes _ _ s.space.bytes (bytes_take n _ (bytes_cell (nth 0 m) (nth_cell m s 0))))
+      (simp length-append (omega (arith, s.space.long))) (simp length-append (omega (arith, leb-true (here m + n) 65535 g, short_bytes n (nth 0 m))))))
   space_leads Kernel.addTo z =
       let x = wrap (cell_at m.high (nth 0 m - 32768) + nth 1 m) in
       leads_ask _ _ _ (has_cells 2 m) _ (λ h. leads_ask _ _ _ (in_reach (nth 0 m) 2 m) _ (λ g.
-      stored-leads (popped 2 m) (with_popped m s 2) (nth 0 m) 2 (cell x) (bytes-cell x (omega arith)) (omega (arith, length-cell x)) g))
+      stored-leads (popped 2 m) (with_popped m s 2) (nth 0 m) 2 (cell x) (bytes_cell x (omega arith)) (omega (arith, length-cell x)) g))
   space_leads Kernel.move z =
       let xs = moved_up (nth 0 m) (nth 2 m - 32768) (nth 1 m - 32768) m.high in
       leads_ask _ _ _ (has_cells 3 m) _ (λ h. leads_ask _ _ _ (in_reach (nth 2 m) (nth 0 m) m) _ (λ g. leads_ask _ _ _ (in_reach (nth 1 m) (nth 0 m) m) _ (λ f.
       high_leads (popped 3 m) (with_popped m s 3) xs (bytes_moved (nth 0 m) _ _ m.high s.space.bytes) (length_moved (nth 0 m) _ _ m.high))))
   space_leads Kernel.fill z =
       leads_ask _ _ _ (has_cells 3 m) _ (λ h. leads_ask _ _ _ (in_reach (nth 2 m) (nth 1 m) m) _ (λ g.
-      stored-leads (popped 3 m) (with_popped m s 3) (nth 2 m) (nth 1 m) (replicate (nth 1 m) (nth 0 m % 256)) (bytes-replicate (nth 1 m) (nth 0 m % 256) (omega arith)) (simp length-replicate (omega arith)) g))
+      stored-leads (popped 3 m) (with_popped m s 3) (nth 2 m) (nth 1 m) (replicate (nth 1 m) (nth 0 m % 256)) (bytes_replicate (nth 1 m) (nth 0 m % 256) (omega arith)) (simp length-replicate (omega arith)) g))
   space_leads (Kernel.set_base n) z =
-      high_leads m s _ (bytes_put 0 (cell n) m.high (bytes-cell n z) s.space.bytes) (length_put 0 (cell n) m.high (inr (omega (arith, length-cell n, s.space.long))))
+      high_leads m s _ (bytes_put 0 (cell n) m.high (bytes_cell n z) s.space.bytes) (length_put 0 (cell n) m.high (inr (omega (arith, length-cell n, s.space.long))))
   space_leads Kernel.allot z =
       let a = if is_negative (nth 0 m) then here m - magnitude (nth 0 m) else here m + nth 0 m in
       let l = if has_newest m then max 34048 (body_of m.low m.names.newest) else 34048 in
       leads_ask _ _ _ (has_cells 1 m) _ (λ h. leads_ask _ _ _ (leb l a && leb a 65535) _ (λ g.
       let p = and_parts (leb l a) (leb a 65535) g in
-      let q : 34048 ≤ a = lowest-above (has_newest m) _ a (leb-true l a p.0) in
+      let q : 34048 ≤ a = lowest_above (has_newest m) _ a (leb-true l a p.0) in
       here_leads (popped 1 m) (with_popped m s 1) z (take (a - 32768) m.high ++ zeros (a - 32768 - length m.high))
-      (append-bytes _ _ (bytes_take (a - 32768) m.high s.space.bytes) (bytes-replicate _ 0 (omega arith)))
-      (omega (arith, resized-long (a - 32768) m.high)) (omega (arith, resized-long (a - 32768) m.high, leb-true a 65535 p.1))))
+      (append-bytes _ _ (bytes_take (a - 32768) m.high s.space.bytes) (bytes_replicate _ 0 (omega arith)))
+      (omega (arith, resized_long (a - 32768) m.high)) (omega (arith, resized_long (a - 32768) m.high, leb-true a 65535 p.1))))

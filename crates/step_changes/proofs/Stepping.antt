@@ -32,16 +32,16 @@ use Rattle.definition.specs.Laws.{Keeps}
 use Rattle.definition.proofs.Keeping.{fault_keeps}
 use Rattle.step_changes.specs.Steady.{BlockInCell, SpaceHolds, StoreHolds, Steady}
 use Rattle.step_changes.specs.Laws.{Stepped, StepChanges, stays}
-use Rattle.step_changes.proofs.Ranges.{all_or, bytes-cell}
+use Rattle.step_changes.proofs.Ranges.{all_or, bytes_cell}
 use Rattle.step_changes.proofs.Leading.{Leads, Gives, leads_ask, leads_if, leads_given, with_popped, replaced_leads}
-use Rattle.step_changes.proofs.Plain.{cells_lead, typing_leads, returns-lead, low-cell, past_steady}
+use Rattle.step_changes.proofs.Plain.{cells_lead, typing_leads, returns_lead, low_cell, past_steady}
 use Rattle.step_changes.proofs.Spacing.{space_leads}
-use Rattle.step_changes.proofs.Buffering.{with_reading, saved-store, bringing_leads, blocks_lead}
+use Rattle.step_changes.proofs.Buffering.{with_reading, saved_store, bringing_leads, blocks_lead}
 use Rattle.step_changes.proofs.Changing.{append_leads}
 use Rattle.step_changes.proofs.Compiling.{compiling_leads}
 use Rattle.step_changes.proofs.Flowing.{inlines_lead, other_leads}
 use Rattle.step_changes.proofs.Defining.{defining_leads}
-use Rattle.step_changes.proofs.Taking.{CellOr, Took, taken_gives, found-token, number-cell, next_steady}
+use Rattle.step_changes.proofs.Taking.{CellOr, Took, taken_gives, found_token, number_cell, next_steady}
 use Rattle.step_changes.proofs.Rows.{Given, Proper, kernel_proper, leads_asked}
 
 performs : (again : ℕ → Machine → Asked After) → ((t : ℕ) (m : Machine) → Steady m → Leads (dict_of m) (again t m)) → (w : Action) (a : Argument) (s : Steady a.machine) → Given w a s → Leads (dict_of a.machine) (perform again w a a.machine)
@@ -52,14 +52,14 @@ performs again g (Kernel.typing w) a s h = typing_leads a.machine s w
 performs again g (Kernel.blocks w) a s h = blocks_lead a.machine s w
 performs again g (Kernel.defining w) a s h = defining_leads a.machine s w a.bytes a.entry h
 performs again g (Kernel.compiling w) a s h = compiling_leads a.machine s h.0 w a.entry a.bytes h.1
-performs again g (Kernel.returns w) a s h = returns-lead a.machine s w
+performs again g (Kernel.returns w) a s h = returns_lead a.machine s w
 performs again g (Kernel.inlines w) a s h = inlines_lead a.machine s w h
 performs again g Kernel.execute a s h = leads_ask _ _ _ (has_cells 1 a.machine) _ (λ c. g (nth 0 a.machine) (popped 1 a.machine) (with_popped a.machine s 1))
 performs again g Kernel.tick a s h = replaced_leads a.machine s 0 (token_of a.machine.low a.entry ∷ []) (h, tt)
 performs again g Kernel.toBody a s h =
     let m = a.machine in
     let code = cell_at m.low (nth 0 m) in
-    leads_ask _ _ _ (has_cells 1 m) _ (λ c. leads_ask _ _ _ (in_dictionary (nth 0 m) 4 m && (eqb code 202 || eqb code 205)) _ (λ d. replaced_leads m s 1 (cell_at m.low (nth 0 m + 2) ∷ []) (low-cell m s (nth 0 m + 2), tt)))
+    leads_ask _ _ _ (has_cells 1 m) _ (λ c. leads_ask _ _ _ (in_dictionary (nth 0 m) 4 m && (eqb code 202 || eqb code 205)) _ (λ d. replaced_leads m s 1 (cell_at m.low (nth 0 m + 2) ∷ []) (low_cell m s (nth 0 m + 2), tt)))
 performs again g Kernel.comment a s h = (stays, s)
 performs again g Kernel.abort a s h = tt
 
@@ -99,7 +99,7 @@ module _ (m : Machine) (s : Steady m) where
   found_gives : (name : List ℕ) (f : Found) → searched (dict_of m) name ≡ f → Gives (FoundIn m) (ask_found m f)
   found_gives name missing h = tt
   found_gives name broken h = tt
-  found_gives name (hit e) h = found-token m s name e h
+  found_gives name (hit e) h = found_token m s name e h
 
   word-gives : (bytes : List ℕ) (found : Option ℕ) → FoundIn m found → Gives Means (Step.word_of bytes found m)
   word-gives bytes (Some e) h = go (is_immediate m.low e)
@@ -107,7 +107,7 @@ module _ (m : Machine) (s : Steady m) where
       go : (b : Bool) → Means (if b then Step.immediate (token_of m.low e) else Step.plain (token_of m.low e))
       go true = tt
       go false = h
-  word-gives bytes None h = go (number_in (base m) bytes) (number-cell (base m) bytes)
+  word-gives bytes None h = go (number_in (base m) bytes) (number_cell (base m) bytes)
     where
       go : (o : Option ℕ) → CellOr o → Gives Means (ask_there m o >>= λ n. given (Step.number n))
       go None k = tt
@@ -118,8 +118,8 @@ module _ (m : Machine) (s : Steady m) where
   acted-leads false e (Step.plain t) k = executed t m s
   acted-leads false e (Step.number n) k = replaced_leads m s 0 (n ∷ []) (k, tt)
   acted-leads true e (Step.immediate t) k = executed t m s
-  acted-leads true e (Step.plain t) k = append_leads m s (s.compiles e) (cell t) (bytes-cell t k)
-  acted-leads true e (Step.number n) k = append_leads m s (s.compiles e) (literal_of n) (append-bytes (cell (kernel_token 98)) (cell n) (bytes-cell (kernel_token 98) (lit< tt)) (bytes-cell n k))
+  acted-leads true e (Step.plain t) k = append_leads m s (s.compiles e) (cell t) (bytes_cell t k)
+  acted-leads true e (Step.number n) k = append_leads m s (s.compiles e) (literal_of n) (append-bytes (cell (kernel_token 98)) (cell n) (bytes_cell (kernel_token 98) (lit< tt)) (bytes_cell n k))
 
 interpreted_leads : (t : Taken) → Steady t.machine → Leads (dict_of t.machine) (Step.interpreted t)
 interpreted_leads t s =
@@ -144,16 +144,16 @@ going_if : (m : Machine) (b : Bool) (x y : Outcome) → (b ≡ true → Going m 
 going_if m true x y p q = p refl
 going_if m false x y p q = q refl
 
-ended-goes : (m : Machine) → Steady m → (ls : List Position) → All BlockInCell ls → Going m (Step.ended ls m)
-ended-goes m s [] h = refl
-ended-goes m s (l ∷ ls) h = (stays, with_reading m s l m.text.source.word ls h.0 h.1)
+ended_goes : (m : Machine) → Steady m → (ls : List Position) → All BlockInCell ls → Going m (Step.ended ls m)
+ended_goes m s [] h = refl
+ended_goes m s (l ∷ ls) h = (stays, with_reading m s l m.text.source.word ls h.0 h.1)
 
-step-goes : (m : Machine) → Steady m → Going m (step m)
+step_goes : (m : Machine) → Steady m → Going m (step m)
 unfolding step
-step-goes m s =
+step_goes m s =
     going_if m (eqb (ip m) 0) (Step.from_text m) (Step.outcome (Step.from_tokens m))
     (λ e. going_if m (Step.needs_block m) _ _ (λ n. going m (Step.bringing m) (bringing_leads m s))
-    (λ n. going_if m (no_word_left m) _ _ (λ w. ended-goes m s m.text.loads s.text.loads) (λ w. going m (Step.interpreted (next_word m)) (interpreted_leads (next_word m) (next_steady m s)))))
+    (λ n. going_if m (no_word_left m) _ _ (λ w. ended_goes m s m.text.loads s.text.loads) (λ w. going m (Step.interpreted (next_word m)) (interpreted_leads (next_word m) (next_steady m s)))))
     (λ e. going m (Step.from_tokens m) (leads_ask _ _ _ (has_inline m) _ (λ h. executed (inline m) (past m) (past_steady m s h))))
 
 -- what a fault leaves
@@ -168,7 +168,7 @@ cleared_steady m m' s k = record {
   text = record { line = subst Bytes (sym k.line) s.text.line; reads = omega arith; loads = tt };
   space = subst SpaceHolds (sym k.space) s.space;
   pointer = omega arith;
-  store = elim k.blocks [ inl e ↦ subst StoreHolds (sym e.0) s.store | inr e ↦ subst StoreHolds (sym e.2) (saved-store m s e.0) ];
+  store = elim k.blocks [ inl e ↦ subst StoreHolds (sym e.0) s.store | inr e ↦ subst StoreHolds (sym e.2) (saved_store m s e.0) ];
 }
 
 stepped : (m : Machine) → Steady m → (o : Outcome) → step m ≡ o → Going m o → Stepped m o
@@ -177,4 +177,4 @@ stepped m s (Step.finished m') e g = g
 stepped m s (Step.failed why m') e g = let k = fault_keeps m m' why e in (k.dictionary, cleared_steady m m' s k)
 
 pub step_changes : StepChanges
-step_changes m s = stepped m s (step m) refl (step-goes m s)
+step_changes m s = stepped m s (step m) refl (step_goes m s)

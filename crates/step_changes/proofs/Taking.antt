@@ -7,7 +7,7 @@ use Rattle.image.specs.Cells.{at, cell_at, Bytes}
 use Rattle.entries.specs.Entries.{first_at, token_of, spelled, head_at, is_named}
 use Rattle.entries.specs.Search.{Found, missing, broken, hit, in_order, walk, search_in}
 use Rattle.entries.specs.Threads.{Youngest}
-use Rattle.entries.proofs.Walks.{in_parts, walk-youngest}
+use Rattle.entries.proofs.Walks.{in_parts, walk_youngest}
 use Rattle.dictionary.specs.Dict.{Dict}
 use Rattle.dictionary.specs.Search.{searched, or_else}
 use Rattle.numbers.specs.Cells as numbers
@@ -23,20 +23,20 @@ use Rattle.definition.specs.Kernel.{Takes}
 use Rattle.definition.specs.Words.{Argument, taken}
 use Rattle.step_changes.specs.Steady.{Steady}
 use Rattle.step_changes.proofs.Known.{known}
-use Rattle.step_changes.proofs.Ranges.{bytes-none, bytes_more, bytes-behind, bytes_take, bytes_drop}
+use Rattle.step_changes.proofs.Ranges.{bytes_none, bytes_more, bytes_behind, bytes_take, bytes_drop}
 use Rattle.step_changes.proofs.Leading.{Gives, gives_on}
-use Rattle.step_changes.proofs.Buffering.{Kept, with_reading, buffer-bytes}
+use Rattle.step_changes.proofs.Buffering.{Kept, with_reading, buffer_bytes}
 use Rattle.step_changes.proofs.Defining.{InThread}
 use Rattle.step_changes.proofs.Restated.{before, up_to}
 
 -- the text
 
-text-bytes : (m : Machine) → Steady m → Bytes (text_of m)
-text-bytes m s = either (eqb (blk m) 0)
+text_bytes : (m : Machine) → Steady m → Bytes (text_of m)
+text_bytes m s = either (eqb (blk m) 0)
   where
     either : (b : Bool) → Bytes (if b then take m.text.source.length m.text.line else buffer_of m)
     either true = bytes_take m.text.source.length m.text.line s.text.line
-    either false = buffer-bytes m s
+    either false = buffer_bytes m s
 
 pub read_on : (m : Machine) → Steady m → (t : ℕ) (w : LastWord) → Steady (reading_on t w m)
 read_on m s t w = with_reading m s _ w m.text.loads s.text.reads s.text.loads
@@ -50,12 +50,12 @@ abbrev Fewer : ℕ → Option (List ℕ) → Type 0
 Fewer n None = Unit {0}
 Fewer n (Some ys) = (length ys < n) × Bytes ys
 
-before-fewer : (b : ℕ) (xs : List ℕ) → Bytes xs → Fewer (length xs) (before b xs)
-before-fewer b [] h = tt
-before-fewer b (x ∷ xs) h = go (eqb x b) (before b xs) (before-fewer b xs (bytes-behind x xs h))
+before_fewer : (b : ℕ) (xs : List ℕ) → Bytes xs → Fewer (length xs) (before b xs)
+before_fewer b [] h = tt
+before_fewer b (x ∷ xs) h = go (eqb x b) (before b xs) (before_fewer b xs (bytes_behind x xs h))
   where
     go : (q : Bool) (o : Option (List ℕ)) → Fewer (length xs) o → Fewer (suc (length xs)) (elim q [ true ↦ Some [] | false ↦ elim o [ None ↦ None | Some ys ↦ Some (x ∷ ys) ] ])
-    go true o f = (omega arith, bytes-none)
+    go true o f = (omega arith, bytes_none)
     go false None f = tt
     go false (Some ys) f = (omega (arith, f.0), bytes_more x ys (h zero) f.1)
 
@@ -63,7 +63,7 @@ abbrev Quoted : ℕ → Machine → Taken → Type 0
 Quoted n m t = Kept m t.machine × ((length t.bytes ≤ n) × Bytes t.bytes)
 
 text_gives : (b n : ℕ) (m : Machine) → Steady m → Gives (Quoted n m) (take_to b n m)
-text_gives b n m s = go (before b xs) (before-fewer b xs (bytes_take (suc n) (drop (offset m) (text_of m)) (bytes_drop (offset m) (text_of m) (text-bytes m s))))
+text_gives b n m s = go (before b xs) (before_fewer b xs (bytes_take (suc n) (drop (offset m) (text_of m)) (bytes_drop (offset m) (text_of m) (text_bytes m s))))
   where
     xs : List ℕ
     xs = take (suc n) (drop (offset m) (text_of m))
@@ -82,10 +82,10 @@ Whole low missing = Unit {0}
 Whole low broken = Unit {0}
 Whole low (hit e) = first_at low e + 2 ≤ length low
 
-walk-whole : (n : ℕ) (low name : List ℕ) (before e : ℕ) → Whole low (walk n low (length low) name before e)
+walk_whole : (n : ℕ) (low name : List ℕ) (before e : ℕ) → Whole low (walk n low (length low) name before e)
 unfolding walk
-walk-whole zero low name before e = tt
-walk-whole (suc n) low name before e = go (eqb e 0) (in_order low (length low) before e) (is_named low e name) refl (walk-whole n low name e (cell_at low e))
+walk_whole zero low name before e = tt
+walk_whole (suc n) low name before e = go (eqb e 0) (in_order low (length low) before e) (is_named low e name) refl (walk_whole n low name e (cell_at low e))
   where
     go : (p q r : Bool) → in_order low (length low) before e ≡ q → Whole low (walk n low (length low) name e (cell_at low e)) → Whole low (elim p [ true ↦ missing | false ↦ elim q [ false ↦ broken | true ↦ elim r [ true ↦ hit e | false ↦ walk n low (length low) name e (cell_at low e) ] ] ])
     go true q r h k = tt
@@ -95,30 +95,30 @@ walk-whole (suc n) low name before e = go (eqb e 0) (in_order low (length low) b
 
 search_whole : (low : List ℕ) (voc : ℕ) (name : List ℕ) → Whole low (search_in low voc name)
 unfolding search_in
-search_whole low voc name = walk-whole (suc (length low)) low (spelled name) (length low) (cell_at low (head_at voc (at (spelled name) 0)))
+search_whole low voc name = walk_whole (suc (length low)) low (spelled name) (length low) (cell_at low (head_at voc (at (spelled name) 0)))
 
 or_whole : (low : List ℕ) (f : Found) (g : Unit {0} → Found) → Whole low f → Whole low (g tt) → Whole low (or_else f g)
 or_whole low missing g p q = q
 or_whole low broken g p q = tt
 or_whole low (hit e) g p q = p
 
-searched-whole : (D : Dict) (name : List ℕ) → Whole D.low (searched D name)
+searched_whole : (D : Dict) (name : List ℕ) → Whole D.low (searched D name)
 unfolding searched
-searched-whole D name =
+searched_whole D name =
     or_whole D.low (search_in D.low D.context name) _ (search_whole D.low D.context name)
     (or_whole D.low (search_in D.low D.current name) _ (search_whole D.low D.current name) (search_whole D.low 270 name))
 
 -- the token of what is found is a cell
-pub found-token : (m : Machine) → Steady m → (name : List ℕ) (e : ℕ) → searched (dict_of m) name ≡ hit e → token_of m.low e < 65536
+pub found_token : (m : Machine) → Steady m → (name : List ℕ) (e : ℕ) → searched (dict_of m) name ≡ hit e → token_of m.low e < 65536
 unfolding first_at
-found-token m s name e h = let w : Whole m.low (hit e) = subst (Whole m.low) h (searched-whole (dict_of m) name) in omega (arith, w, (known (dict_of m) s.came).room)
+found_token m s name e h = let w : Whole m.low (hit e) = subst (Whole m.low) h (searched_whole (dict_of m) name) in omega (arith, w, (known (dict_of m) s.came).room)
 
 -- what CURRENT's thread holds
-found-walk : (m : Machine) → Steady m → (name : List ℕ) (w : ℕ) → search_in m.low m.order.current name ≡ hit w → InThread m w
+found_walk : (m : Machine) → Steady m → (name : List ℕ) (w : ℕ) → search_in m.low m.order.current name ≡ hit w → InThread m w
 unfolding search_in
-found-walk m s name w h =
+found_walk m s name w h =
     let head = cell_at m.low (head_at m.order.current (at (spelled name) 0)) in
-    let y : Youngest m.low (spelled name) head (hit w) = subst (Youngest m.low (spelled name) head) h (walk-youngest m.low (length m.low) (spelled name) head refl (omega (arith, (known (dict_of m) s.came).long))) in
+    let y : Youngest m.low (spelled name) head (hit w) = subst (Youngest m.low (spelled name) head) h (walk_youngest m.low (length m.low) (spelled name) head refl (omega (arith, (known (dict_of m) s.came).long))) in
     record { thread = at (spelled name) 0 % 4; thread_lt = omega arith; walk = y.0 }
 
 -- a number in the text is a cell
@@ -135,9 +135,9 @@ up_to_cell limit f h (Some n) = go (leb n limit) refl
     go true e = h n (leb-true n limit e)
     go false e = tt
 
-pub number-cell : (base : ℕ) (bs : List ℕ) → CellOr (number_in base bs)
-number-cell base [] = tt
-number-cell base (b ∷ bs) = go (eqb b 45)
+pub number_cell : (base : ℕ) (bs : List ℕ) → CellOr (number_in base bs)
+number_cell base [] = tt
+number_cell base (b ∷ bs) = go (eqb b 45)
   where
     go : (q : Bool) → CellOr (numbers.if◌then◌else◌ q (writing.up_to 32768 negated (magnitude_of base bs)) (writing.up_to 65535 (λ n. n) (magnitude_of base (b ∷ bs))))
     go true = up_to_cell 32768 negated (λ n h. omega arith) (magnitude_of base bs)
@@ -176,10 +176,10 @@ taken_gives Kernel.nothing m s = ((s, refl), tt)
 taken_gives Kernel.aName m s = named_gives (Took Kernel.aName m) m _ (λ h. ((next_steady m s, refl), h))
 taken_gives Kernel.aWord m s =
     named_gives (Took Kernel.aWord m) m _ (λ h.
-    found_gives (Took Kernel.aWord m) (next_word m).machine (searched (dict_of m) (next_word m).bytes) _ (λ e f. ((next_steady m s, refl), found-token m s (next_word m).bytes e f)))
+    found_gives (Took Kernel.aWord m) (next_word m).machine (searched (dict_of m) (next_word m).bytes) _ (λ e f. ((next_steady m s, refl), found_token m s (next_word m).bytes e f)))
 taken_gives Kernel.aForgettable m s =
     named_gives (Took Kernel.aForgettable m) m _ (λ h.
-    found_gives (Took Kernel.aForgettable m) (next_word m).machine (search_in m.low m.order.current (next_word m).bytes) _ (λ w f. forgettable w (found-walk m s (next_word m).bytes w f) _))
+    found_gives (Took Kernel.aForgettable m) (next_word m).machine (search_in m.low m.order.current (next_word m).bytes) _ (λ w f. forgettable w (found_walk m s (next_word m).bytes w f) _))
   where
     forgettable : (w : ℕ) → InThread m w → (b : Bool) → Gives (Took Kernel.aForgettable m) (ask (next_word m).machine BrokenLink b >> given (record { machine = (next_word m).machine; bytes = (next_word m).bytes; entry = w }))
     forgettable w t true = ((next_steady m s, refl), record { thread = t.thread; thread_lt = t.thread_lt; walk = t.walk })

@@ -13,7 +13,7 @@ use Rattle.forgetting.proofs.Booting.{all_bytes_lem}
 use Rattle.step_changes.specs.Steady.{StoreHolds}
 use Rattle.step_changes.specs.Laws as laws
 use Rattle.step_changes.specs.Laws.{Story-told}
-use Rattle.step_changes.proofs.Ranges.{bytes-none}
+use Rattle.step_changes.proofs.Ranges.{bytes_none}
 
 -- a store without blocks
 abbrev card : Meaning
@@ -22,7 +22,7 @@ card = record { count = 0; writable = false; blocks = [] }
 card_holds : StoreHolds card
 card_holds = record {
   sound = record { few = lit≤ tt; counted = refl; whole = λ k h. absurd (omega arith) };
-  bytes = λ k. bytes-none;
+  bytes = λ k. bytes_none;
 }
 
 abbrev text : List ℕ
@@ -59,8 +59,8 @@ gone : done.news ≡ forgot 1620
 unfolding machine_computes
 gone = refl
 
-pub story-told : Story-told
-story-told = record {
+pub story_told : Story-told
+story_told = record {
   word = 1620;
   before = before;
   found = begun.machine;

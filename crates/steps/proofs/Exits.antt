@@ -24,8 +24,8 @@ pub no : (a b : ℕ) → b < a → leb a b ≡ false
 no a b h = grind (arith, nat_tests)
 
 -- a fault of which the machine knows the place
-pub refused-at : (f : Machine → Asked After) (m : Machine) (e : Fault) (why : Reason) → f m ≡ refused why m → e ≡ fault_of why (told m) → Does f m (Err e) m
-refused-at f m e why p q = (rw p (q, refl), refl)
+pub refused_at : (f : Machine → Asked After) (m : Machine) (e : Fault) (why : Reason) → f m ≡ refused why m → e ≡ fault_of why (told m) → Does f m (Err e) m
+refused_at f m e why p q = (rw p (q, refl), refl)
 
 module _ (r : Registers) (i c t : List ℕ) (k : List Mark) (s : Meaning) (l : length c ≡ 128) where
   pub depth_of : length (stack_of r.seat.depths.cells c) ≡ r.seat.depths.cells
@@ -47,8 +47,8 @@ module _ (r : Registers) (i c t : List ℕ) (k : List Mark) (s : Meaning) (l : l
   lacks_room n p b h = ap (λ d. leb (n + d) 128) (length-popped p b) ∙ no (n + (r.seat.depths.cells - p)) 128 h
 
 -- the machine behind a change of the data cells alone
-pub cells-view : (r r' : Registers) (i c c' t : List ℕ) (k : List Mark) (s : Meaning) (d : ℕ) (xs : List ℕ) → r'.shared ≡ r.shared → r'.seat ≡ with_cell_depth d r.seat → stack_of d c' ≡ xs → seen r' i c' t k s ≡ with_cells xs (seen r i c t k s)
-cells-view r r' i c c' t k s d xs p q e =
+pub cells_view : (r r' : Registers) (i c c' t : List ℕ) (k : List Mark) (s : Meaning) (d : ℕ) (xs : List ℕ) → r'.shared ≡ r.shared → r'.seat ≡ with_cell_depth d r.seat → stack_of d c' ≡ xs → seen r' i c' t k s ≡ with_cells xs (seen r i c t k s)
+cells_view r r' i c c' t k s d xs p q e =
     ap (λ h. view_of h r'.seat (lent i c' t k) s) p
     ∙ ap (λ h. view_of r.shared h (lent i c' t k) s) q
     ∙ ap (λ ys. with_cells ys (seen r i c t k s)) e
@@ -60,8 +60,8 @@ does_like f g m m' (Err e) p h = (rw p h.0, h.1)
 
 -- one cell more
 pub leave_full : (r : Registers) (c : List ℕ) (x : ℕ) (e : Fault) → length c ≡ 128 → 128 ≤ r.seat.depths.cells → e ≡ fault_of StackOverflow (told_by r.seat) → (i t : List ℕ) (k : List Mark) (s : Meaning) → Does (replaced 0 (x ∷ [])) (seen r i c t k s) (Err e) (seen r i c t k s)
-leave_full r c x e l h p i t k s = refused-at (replaced 0 (x ∷ [])) (seen r i c t k s) e StackOverflow (rw (lacks_room r i c t k s l 1 0 (omega arith) (omega arith))) p
+leave_full r c x e l h p i t k s = refused_at (replaced 0 (x ∷ [])) (seen r i c t k s) e StackOverflow (rw (lacks_room r i c t k s l 1 0 (omega arith) (omega arith))) p
 
 pub leave_done : (r r' : Registers) (c c' : List ℕ) (x : ℕ) → length c ≡ 128 → r.seat.depths.cells < 128 → r'.shared ≡ r.shared → r'.seat ≡ with_cell_depth (r.seat.depths.cells + 1) r.seat → stack_of (r.seat.depths.cells + 1) c' ≡ x ∷ stack_of r.seat.depths.cells c → (i t : List ℕ) (k : List Mark) (s : Meaning) → Does (replaced 0 (x ∷ [])) (seen r i c t k s) (Ok tt) (seen r' i c' t k s)
 leave_done r r' c c' x l h p q e i t k s =
-    rw (has_room_lem r i c t k s l 1 0 (omega arith) (omega arith)) (ap quietly (sym (cells-view r r' i c c' t k s _ _ p q e)))
+    rw (has_room_lem r i c t k s l 1 0 (omega arith) (omega arith)) (ap quietly (sym (cells_view r r' i c c' t k s _ _ p q e)))

@@ -5,7 +5,7 @@ use Rattle.std.proofs.lemmas.List.{take_at, drop_at, drop-append-le, drop-take, 
 use Rattle.std.proofs.lemmas.Slice.{take-put_mid_below}
 use Rattle.store.specs.Meaning.{block, written}
 use Rattle.store.specs.Cards.{BlocksInOrder, blocks_of, card_of, memory_blocks, memory_card, whole_blocks}
-use Rattle.store.specs.Soundness.{blocks-within, get_or-blocks_of, suc_times}
+use Rattle.store.specs.Soundness.{blocks_within, get_or-blocks_of, suc_times}
 
 pub blocks_in_order : (bytes : List ℕ) → BlocksInOrder bytes
 blocks_in_order bytes n i h l =
@@ -15,8 +15,8 @@ blocks_in_order bytes n i h l =
     ∙ get_or-drop (n * 1024) bytes i 0
     ∙ ap (λ j. get_or bytes j 0) e
 
-drop-put_mid-above : {X : Type 0} (c a k : ℕ) (xs ys : List X) → c + a ≤ length xs → drop c (put_mid (c + a) k xs ys) ≡ put_mid a k (drop c xs) ys
-drop-put_mid-above c a k xs ys h =
+drop_put_mid_above : {X : Type 0} (c a k : ℕ) (xs ys : List X) → c + a ≤ length xs → drop c (put_mid (c + a) k xs ys) ≡ put_mid a k (drop c xs) ys
+drop_put_mid_above c a k xs ys h =
     let l : length (take (c + a) xs) ≡ c + a = length-take-le (c + a) xs h in
     let l' : c ≤ length (take (c + a) xs) = omega arith in
     let e₁ = drop-append-le c (take (c + a) xs) (ys ++ drop k (drop (c + a) xs)) l' in
@@ -39,7 +39,7 @@ blocks_of_put (suc k) (suc n) bytes ys h l w =
     let m = suc_times n in
     let r = blocks_of_put k n (drop 1024 bytes) ys h' l w' in
     let t = take-put_mid_below (1024 + n * 1024) 1024 bytes ys 1024 (omega arith) w'' in
-    let d = drop-put_mid-above 1024 (n * 1024) 1024 bytes ys w'' in
+    let d = drop_put_mid_above 1024 (n * 1024) 1024 bytes ys w'' in
     ap (λ a. take 1024 (put_mid a 1024 bytes ys) ∷ blocks_of k (drop 1024 (put_mid a 1024 bytes ys))) m
     ∙ ap (λ p. p ∷ blocks_of k (drop 1024 (put_mid (1024 + n * 1024) 1024 bytes ys))) t
     ∙ ap (λ p. take 1024 bytes ∷ blocks_of k p) d
@@ -57,7 +57,7 @@ read_at bytes got n a s h e =
 pub put_at : (bytes last ys : List ℕ) (n a : ℕ) → a ≡ n * 1024 → n < memory_blocks bytes → last ≡ ys → length ys ≡ 1024
     → memory_card (put_mid a ((a + 1024) - a) bytes last) ≡ written (memory_card bytes) n ys
 put_at bytes last ys n a s h e l =
-    let w : memory_blocks bytes * 1024 ≤ length bytes = (blocks-within bytes).0 in
+    let w : memory_blocks bytes * 1024 ≤ length bytes = (blocks_within bytes).0 in
     let w' : n * 1024 + 1024 ≤ length bytes = omega arith in
     let k : (a + 1024) - a ≡ 1024 = omega arith in
     let m : length (put_mid (n * 1024) 1024 bytes ys) ≡ length bytes = simp (length-append, length-take, length-drop) (omega arith) in

@@ -23,8 +23,8 @@ get_or-blocks_of (suc k) (suc n) bytes h =
     get_or-blocks_of k n (drop 1024 bytes) h' ∙ ap (take 1024) (drop-drop (n * 1024) 1024 bytes ∙ ap (λ i. drop i bytes) (sym (suc_times n)))
 
 -- the blocks of a card lie within its bytes, and are few
-pub blocks-within : (bytes : List ℕ) → (memory_blocks bytes * 1024 ≤ length bytes) × (memory_blocks bytes ≤ 65535)
-blocks-within bytes =
+pub blocks_within : (bytes : List ℕ) → (memory_blocks bytes * 1024 ≤ length bytes) × (memory_blocks bytes ≤ 65535)
+blocks_within bytes =
     let n : ℕ = length bytes in
     let d : n / 1024 * 1024 ≤ n = div-mul-le_self n 1024 in
     let P : ℕ → Type 0 = λ k. (k * 1024 ≤ n) × (k ≤ 65535) in
@@ -34,12 +34,12 @@ blocks-within bytes =
     elim (n % 1024 == 0) as (λ b. P (cond (b && nat_le (n / 1024) 65535) (n / 1024) 0))
     [ true ↦ few | false ↦ (omega arith, omega arith) ]
 
-pub card-sound : (w : Bool) (bytes : List ℕ) → Sound (card_of w (memory_blocks bytes) bytes)
-card-sound w bytes = record {
-  few = (blocks-within bytes).1;
+pub card_sound : (w : Bool) (bytes : List ℕ) → Sound (card_of w (memory_blocks bytes) bytes)
+card_sound w bytes = record {
+  few = (blocks_within bytes).1;
   counted = length-blocks_of (memory_blocks bytes) bytes;
   whole = λ k h.
-      let w : memory_blocks bytes * 1024 ≤ length bytes = (blocks-within bytes).0 in
+      let w : memory_blocks bytes * 1024 ≤ length bytes = (blocks_within bytes).0 in
       let w' : k * 1024 + 1024 ≤ length bytes = omega arith in
       ap length (get_or-blocks_of (memory_blocks bytes) k bytes h) ∙ simp (length-take, length-drop) (omega arith);
 }

@@ -2,7 +2,7 @@ ghost use Rattle.std.specs.Prelude.{◌≡◌, true, false, MatchResult};
 ghost use Rattle.fault.specs.Numbers.{fault_of, place_of};
 ghost use Rattle.fault.specs.declared.Reason.TheVariants.{WrongLength};
 ghost use Rattle.store.specs.Cards.{BlocksInOrder, is_memory_card, memory_card};
-ghost use Rattle.store.specs.Soundness.{card-sound};
+ghost use Rattle.store.specs.Soundness.{card_sound};
 
 use super::Store;
 use super::blocks::{block_start, count_blocks, read_block, whole};
@@ -44,7 +44,7 @@ impl<'a> MemoryCard<'a> {
 impl<'a> Store for MemoryCard<'a> {
     ghost means = { λ c. memory_card c.bytes.now };
 
-    ghost sound = { λ c. card-sound true c.bytes.now };
+    ghost sound = { λ c. card_sound true c.bytes.now };
 
     fn count(&self) -> u16 {
         count_blocks(self.bytes.len())

@@ -7,5 +7,5 @@ abbrev pub switched : Bool → Meaning → Meaning
 switched locked m = record { count = m.count; writable = m.writable && not locked; blocks = m.blocks }
 
 -- the switch changes no block, so what is sound inside is sound outside
-pub switched-sound : (locked : Bool) (m : Meaning) → Sound m → Sound (switched locked m)
-switched-sound locked m s = record { few = s.few; counted = s.counted; whole = s.whole }
+pub switched_sound : (locked : Bool) (m : Meaning) → Sound m → Sound (switched locked m)
+switched_sound locked m s = record { few = s.few; counted = s.counted; whole = s.whole }

@@ -2,7 +2,7 @@
 #![tactic(auto)]
 
 ghost use Rattle.std.specs.Prelude.{◌≡◌, false};
-ghost use Rattle.switched_card.specs.Switch.{switched, switched-sound};
+ghost use Rattle.switched_card.specs.Switch.{switched, switched_sound};
 
 use fault::{Fault, Place, Reason};
 use store::Store;
@@ -36,7 +36,7 @@ impl<S: Store> Switched<S> {
 impl<S: Store> Store for Switched<S> {
     ghost means = { λ s. switched s.locked (S.Store.means s.card) };
 
-    ghost sound = { λ s. switched-sound s.locked (S.Store.means s.card) (S.Store.sound s.card) };
+    ghost sound = { λ s. switched_sound s.locked (S.Store.means s.card) (S.Store.sound s.card) };
 
     fn count(&self) -> u16 {
         self.card.count()

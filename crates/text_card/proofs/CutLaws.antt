@@ -19,13 +19,13 @@ line_stops text n h e =
     ∙ ap (λ b. length (cond b [] (get_or text n 0 ∷ first_line (drop (n + 1) text)))) (eq-eqb (get_or text n 0) 10 e)
 
 -- and so does the end of the text
-pub line-ends : (text : List ℕ) (n : ℕ) → length text ≤ n → length (first_line (drop n text)) ≡ 0
-line-ends text n h = at_drop_all (λ t. length (first_line t)) text n h
+pub line_ends : (text : List ℕ) (n : ℕ) → length text ≤ n → length (first_line (drop n text)) ≡ 0
+line_ends text n h = at_drop_all (λ t. length (first_line t)) text n h
 
-pub line-within : (text : List ℕ) → length (first_line text) ≤ length text
-line-within [] = omega arith
-line-within (b ∷ text) =
-    let i = line-within text in
+pub line_within : (text : List ℕ) → length (first_line text) ≤ length text
+line_within [] = omega arith
+line_within (b ∷ text) =
+    let i = line_within text in
     elim (eqb b 10) as (λ e. length (cond e [] (b ∷ first_line text)) ≤ suc (length text)) [ true ↦ omega arith | false ↦ omega arith ]
 
 pub take-line : (text : List ℕ) → take (length (first_line text)) text ≡ first_line text
@@ -41,7 +41,7 @@ drop-line (b ∷ text) =
     [ true ↦ refl | false ↦ drop-line text ]
 
 -- what lies behind the line and its end, or behind the line where no end follows
-pub drop-at-end : (text : List ℕ) (n : ℕ) → n ≡ length (first_line text) → length text ≤ n → drop n text ≡ behind_first text
-drop-at-end text n e h =
+pub drop_at_end : (text : List ℕ) (n : ℕ) → n ≡ length (first_line text) → length text ≤ n → drop n text ≡ behind_first text
+drop_at_end text n e h =
     let h' : length text ≤ suc (length (first_line text)) = omega arith in
     drop_all n text h ∙ sym (drop_all (suc (length (first_line text))) text h') ∙ drop-line text

@@ -6,25 +6,25 @@ use Rattle.text_card.specs.Lines.{LinesAreTheText, Unbroken, ended, missing_end}
 use Rattle.text_card.proofs.LineLaws.{lines_step}
 
 -- a byte other than 10 before the first line breaks none
-before-unbroken : (b : ℕ) (lines : List (List ℕ)) → (b ≡ 10 → ⊥) → Unbroken lines → Unbroken (before b lines)
-before-unbroken b [] n u zero zero h l e = n e
-before-unbroken b [] n u zero (suc i) h l e = absurd (omega arith)
-before-unbroken b [] n u (suc k) i h l e = absurd (omega arith)
-before-unbroken b (line ∷ lines) n u zero zero h l e = n e
-before-unbroken b (line ∷ lines) n u zero (suc i) h l e = u zero i (omega arith) (omega arith) e
-before-unbroken b (line ∷ lines) n u (suc k) i h l e = u (suc k) i h l e
+before_unbroken : (b : ℕ) (lines : List (List ℕ)) → (b ≡ 10 → ⊥) → Unbroken lines → Unbroken (before b lines)
+before_unbroken b [] n u zero zero h l e = n e
+before_unbroken b [] n u zero (suc i) h l e = absurd (omega arith)
+before_unbroken b [] n u (suc k) i h l e = absurd (omega arith)
+before_unbroken b (line ∷ lines) n u zero zero h l e = n e
+before_unbroken b (line ∷ lines) n u zero (suc i) h l e = u zero i (omega arith) (omega arith) e
+before_unbroken b (line ∷ lines) n u (suc k) i h l e = u (suc k) i h l e
 
 empty_unbroken : (lines : List (List ℕ)) → Unbroken lines → Unbroken ([] ∷ lines)
 empty_unbroken lines u zero i h l e = absurd (omega arith)
 empty_unbroken lines u (suc k) i h l e = u k i (omega arith) l e
 
-lines-unbroken : (text : List ℕ) → Unbroken (lines_of text)
+lines_unbroken : (text : List ℕ) → Unbroken (lines_of text)
 unfolding lines_of
-lines-unbroken [] = λ k i h. absurd (omega arith)
-lines-unbroken (b ∷ text) =
-    let u = lines-unbroken text in
+lines_unbroken [] = λ k i h. absurd (omega arith)
+lines_unbroken (b ∷ text) =
+    let u = lines_unbroken text in
     elim (eqb b 10) as (λ t. eqb b 10 ≡ t → Unbroken (cond t ([] ∷ lines_of text) (before b (lines_of text))))
-    [ true ↦ (λ t. empty_unbroken (lines_of text) u) | false ↦ (λ t. before-unbroken b (lines_of text) (eqb-false b 10 t) u) ] refl
+    [ true ↦ (λ t. empty_unbroken (lines_of text) u) | false ↦ (λ t. before_unbroken b (lines_of text) (eqb-false b 10 t) u) ] refl
 
 -- a text's end lacks what the end of its rest lacks
 missing_rest : (b d : ℕ) (text : List ℕ) → missing_end (b ∷ (d ∷ text)) ≡ missing_end (d ∷ text)
@@ -32,15 +32,15 @@ missing_rest b d text =
     let s : suc (suc (length text)) - 1 ≡ suc (suc (length text) - 1) = omega arith in
     ap (λ n. cond (eqb (get_or (b ∷ (d ∷ text)) n 10) 10) [] (10 ∷ [])) s
 
-lines-ended : (text : List ℕ) → ended (lines_of text) ≡ text ++ missing_end text
+lines_ended : (text : List ℕ) → ended (lines_of text) ≡ text ++ missing_end text
 unfolding lines_of
-lines-ended [] = refl
-lines-ended (b ∷ []) =
+lines_ended [] = refl
+lines_ended (b ∷ []) =
     elim (eqb b 10) as (λ t. eqb b 10 ≡ t → ended (cond t ([] ∷ []) ((b ∷ []) ∷ [])) ≡ b ∷ cond t [] (10 ∷ []))
     [ true ↦ (λ t. ap (λ d. d ∷ []) (sym (eqb-true b 10 t))) | false ↦ (λ t. refl) ] refl
-lines-ended (b ∷ (d ∷ text)) =
+lines_ended (b ∷ (d ∷ text)) =
     let rest : List ℕ = d ∷ text in
-    let i : ended (lines_of rest) ≡ rest ++ missing_end rest = lines-ended (d ∷ text) in
+    let i : ended (lines_of rest) ≡ rest ++ missing_end rest = lines_ended (d ∷ text) in
     let step = lines_step rest (omega arith) in
     let m = missing_rest b d text in
     elim (eqb b 10) as (λ t. eqb b 10 ≡ t → ended (cond t ([] ∷ lines_of rest) (before b (lines_of rest))) ≡ b ∷ (rest ++ missing_end (b ∷ rest))) [
@@ -66,7 +66,7 @@ lines_back (line ∷ lines) u =
 
 pub lines_are_the_text : (text : List ℕ) → LinesAreTheText text
 lines_are_the_text text = (
-  record { unbroken = lines-unbroken text; whole = lines-ended text },
+  record { unbroken = lines_unbroken text; whole = lines_ended text },
   λ lines r.
-      sym (lines_back lines r.unbroken) ∙ ap lines_of (r.whole ∙ sym (lines-ended text)) ∙ lines_back (lines_of text) (lines-unbroken text),
+      sym (lines_back lines r.unbroken) ∙ ap lines_of (r.whole ∙ sym (lines_ended text)) ∙ lines_back (lines_of text) (lines_unbroken text),
 )

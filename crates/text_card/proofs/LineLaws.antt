@@ -36,9 +36,9 @@ at_place xs ys x d p e =
     (omega arith, ap (λ i. get_or xs i d) (sym z) ∙ sym (get_or-drop p xs 0 d) ∙ ap (λ l. get_or l 0 d) e, sym (drop-drop 1 p xs) ∙ ap (drop 1) e)
 
 -- the lines left, one line on
-pub next-line : (text rest : List ℕ) (p : ℕ) → lines_of rest ≡ drop p (lines_of text) → 0 < length rest
+pub next_line : (text rest : List ℕ) (p : ℕ) → lines_of rest ≡ drop p (lines_of text) → 0 < length rest
     → (p < length (lines_of text)) × (get_or (lines_of text) p [] ≡ first_line rest) × (drop (p + 1) (lines_of text) ≡ lines_of (behind_first rest))
-next-line text rest p e h = at_place (lines_of text) (lines_of (behind_first rest)) (first_line rest) [] p (sym e ∙ lines_step rest h)
+next_line text rest p e h = at_place (lines_of text) (lines_of (behind_first rest)) (first_line rest) [] p (sym e ∙ lines_step rest h)
 
 -- no lines are left of an empty text
 pub lines_none : (rest : List ℕ) → length rest ≡ 0 → lines_of rest ≡ []
@@ -62,10 +62,10 @@ all_short lines p h short k =
     ]
 
 -- the answer to whether each line fits, from the lines by their places
-pub fits-from : (lines : List (List ℕ)) → ((k : ℕ) → length (get_or lines k []) ≤ 64) → all_fit lines ≡ true
-fits-from [] short = refl
-fits-from (line ∷ lines) short =
-    and_from (leb (length line) 64) (all_fit lines) (le-leb (length line) 64 (short 0)) (fits-from lines (λ k. short (suc k)))
+pub fits_from : (lines : List (List ℕ)) → ((k : ℕ) → length (get_or lines k []) ≤ 64) → all_fit lines ≡ true
+fits_from [] short = refl
+fits_from (line ∷ lines) short =
+    and_from (leb (length line) 64) (all_fit lines) (le-leb (length line) 64 (short 0)) (fits_from lines (λ k. short (suc k)))
 
 pub fits_not : (lines : List (List ℕ)) (i : ℕ) → i < length lines → 64 < length (get_or lines i []) → all_fit lines ≡ false
 fits_not [] i h l = absurd (omega arith)

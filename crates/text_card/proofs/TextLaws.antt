@@ -69,8 +69,8 @@ line_at (line ∷ lines) (suc j) m e h =
 room : (lines : ℕ) → lines ≤ 16 * blocks_for lines
 room lines = omega arith
 
-whole-blocks : (k : ℕ) → k ≤ 65535 → whole_blocks (1024 * k) ≡ k
-whole-blocks k h =
+whole_blocks_lem : (k : ℕ) → k ≤ 65535 → whole_blocks (1024 * k) ≡ k
+whole_blocks_lem k h =
     let m : 1024 * k % 1024 ≡ 0 = omega arith in
     let d : 1024 * k / 1024 ≡ k = omega arith in
     let few : 1024 * k / 1024 ≤ 65535 = omega arith in
@@ -89,7 +89,7 @@ bytes_are_card text k e s =
     let r : length lines ≤ 16 * K = room (length lines) in
     let f : length (padded (1024 * K) (laid_out lines)) ≡ 1024 * K = length-padded (1024 * K) (laid_out lines) (omega (arith, l, r)) in
     ap (λ j. read_only_card (padded (1024 * j) (laid_out lines))) s
-    ∙ ap (λ j. card_of false j (padded (1024 * K) (laid_out lines))) (ap whole_blocks f ∙ whole-blocks K few ∙ sym (cond-true (is_text_card text) K 0 e))
+    ∙ ap (λ j. card_of false j (padded (1024 * K) (laid_out lines))) (ap whole_blocks f ∙ whole_blocks_lem K few ∙ sym (cond-true (is_text_card text) K 0 e))
 
 -- where it is no, the card has no blocks
 pub no_bytes_are_card : (text bytes : List ℕ) → is_text_card text ≡ false → bytes ≡ [] → read_only_card bytes ≡ text_card text

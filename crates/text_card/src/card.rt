@@ -4,7 +4,7 @@ ghost use Rattle.fault.specs.declared.Reason.TheVariants.{WrongLength};
 ghost use Rattle.store.specs.Cards.{read_only_card};
 ghost use Rattle.text_card.specs.Texts.{LinesInBlocks, all_fit, blocks_for, is_text_card, laid_out, lines_of, padded, text_card};
 ghost use Rattle.text_card.specs.Lines.{LinesAreTheText};
-ghost use Rattle.store.specs.Soundness.{card-sound};
+ghost use Rattle.store.specs.Soundness.{card_sound};
 
 use super::lines::{behind_first, count_lines, first_line, first_long_line};
 use fault::{Fault, Place, Reason};
@@ -133,7 +133,7 @@ impl TextCard {
 impl Store for TextCard {
     ghost means = { λ c. read_only_card c.bytes.items };
 
-    ghost sound = { λ c. card-sound false c.bytes.items };
+    ghost sound = { λ c. card_sound false c.bytes.items };
 
     fn count(&self) -> u16 {
         count_blocks(self.bytes.len())

@@ -49,8 +49,8 @@ graphic_more bs i h g = ap are_graphic (drop_more bs i 0 h) ∙ head_yes (get_or
 pub graphic_stops : (bs : List ℕ) (i : ℕ) → i < length bs → graphic (get_or bs i 0) ≡ false → are_graphic (drop i bs) ≡ false
 graphic_stops bs i h g = ap are_graphic (drop_more bs i 0 h) ∙ head_no (get_or bs i 0) (are_graphic (drop (i + 1) bs)) g
 
-pub graphic-ends : (bs : List ℕ) (i : ℕ) → length bs ≤ i → are_graphic (drop i bs) ≡ true
-graphic-ends bs i h = ap are_graphic (drop_all i bs h)
+pub graphic_ends : (bs : List ℕ) (i : ℕ) → length bs ≤ i → are_graphic (drop i bs) ≡ true
+graphic_ends bs i h = ap are_graphic (drop_all i bs h)
 
 -- a name's bytes are below 128, and there are 1 to 31
 head_low : (b : ℕ) (a : Bool) → (leb 33 b && leb b 126 && a) ≡ true → b < 128

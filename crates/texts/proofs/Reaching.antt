@@ -15,7 +15,7 @@ use Rattle.steps.specs.Seats.{told_by}
 use Rattle.steps.specs.Does.{seen}
 use Rattle.texts.specs.Texts.{text_start, text_length, text_in, differs, read_to}
 use Rattle.texts.specs.Strings.{between, TookTo}
-use Rattle.texts.proofs.Windows.{text-seen, text-long, text-short, text-low, read_view}
+use Rattle.texts.proofs.Windows.{text_seen, text_long, text_short, text_low, read_view}
 
 -- how many bytes come before the first b
 abbrev until : ℕ → List ℕ → ℕ
@@ -96,8 +96,8 @@ came_there b n m rest e h k =
     to_is b n m ∙ ap (λ (x : List ℕ). came m (up_to b (take (suc n) x))) e ∙ ap (came m) (found b rest n (omega arith) (omega arith)) ∙ ap (λ j. came m (Some (take j rest))) u
     ∙ ap (λ j. given (record { machine = reading_on (offset m + j + 1) m.text.source.word m; bytes = take (prefix_len (differs b) rest) rest })) l
 
-came-not : (b n : ℕ) (m : Machine) (rest : List ℕ) → rest_of m ≡ rest → (length rest ≤ prefix_len (differs b) rest) ⊎ (n < prefix_len (differs b) rest) → take_to b n m ≡ refused NothingFollows m
-came-not b n m rest e h =
+came_not : (b n : ℕ) (m : Machine) (rest : List ℕ) → rest_of m ≡ rest → (length rest ≤ prefix_len (differs b) rest) ⊎ (n < prefix_len (differs b) rest) → take_to b n m ≡ refused NothingFollows m
+came_not b n m rest e h =
     let u = until_is b rest in
     let P : ℕ → Type 0 = λ j. (length rest ≤ j) ⊎ (n < j) in
     to_is b n m ∙ ap (λ (x : List ℕ). came m (up_to b (take (suc n) x))) e ∙ ap (came m) (missed b rest n (subst P (sym u) h))
@@ -124,10 +124,10 @@ module _ (r : Registers) (i : List ℕ) (li : length i ≡ 65536) (b n f end L :
   end_is = p ∙ ap (λ z. z + prefix_len (differs b) (drop z x)) pf ∙ ap (λ (z : List ℕ). r.seat.source.position.offset + prefix_len (differs b) (drop r.seat.source.position.offset z)) px
 
   size_is : L ≡ text_length r.seat
-  size_is = pl ∙ ap length px ∙ text-long r i li
+  size_is = pl ∙ ap length px ∙ text_long r i li
 
   rest-long : length rest ≡ text_length r.seat - r.seat.source.position.offset
-  rest-long = length-drop r.seat.source.position.offset (text_in r.seat i) ∙ ap (λ z. z - r.seat.source.position.offset) (text-long r i li)
+  rest-long = length-drop r.seat.source.position.offset (text_in r.seat i) ∙ ap (λ z. z - r.seat.source.position.offset) (text_long r i li)
 
   late_by : (v : Bool) → ltb end L ≡ v → (ltb end L && leb end (f + n)) ≡ false → (length rest ≤ run) ⊎ (n < run)
   late_by true h g = inr (let e = end_is in let g' : (true && leb end (f + n)) ≡ false = ap (λ z. z && leb end (f + n)) (sym h) ∙ g in let k : f + n < end = grind (arith, nat_tests) in omega arith)
@@ -135,7 +135,7 @@ module _ (r : Registers) (i : List ℕ) (li : length i ≡ 65536) (b n f end L :
 
   pub too_late : (e : Fault) → (ltb end L && leb end (f + n)) ≡ false → e ≡ fault_of NothingFollows (told_by r.seat) → TookTo b n r i (Err e) r
   too_late e g q = λ c t k s.
-      rw (came-not b n (seen r i c t k s) rest (ap (drop r.seat.source.position.offset) (text-seen r i c t k s)) (late_by (ltb end L) refl g)) (q, refl)
+      rw (came_not b n (seen r i c t k s) rest (ap (drop r.seat.source.position.offset) (text_seen r i c t k s)) (late_by (ltb end L) refl g)) (q, refl)
 
   module _ (g : (ltb end L && leb end (f + n)) ≡ true) where
     before-end : end < L
@@ -145,7 +145,7 @@ module _ (r : Registers) (i : List ℕ) (li : length i ≡ 65536) (b n f end L :
     near = grind (arith, nat_tests)
 
     pub end_short : end + 1 ≤ 1024
-    end_short = let a = before-end in let z = size_is in let m = text-short r in omega arith
+    end_short = let a = before-end in let z = size_is in let m = text_short r in omega arith
 
     pub taken_to : (start : ℕ) (r' : Registers) → start ≡ text_start r.seat → r'.shared ≡ r.shared → r'.seat ≡ read_to (end + 1) r.seat.source.word r.seat → TookTo b n r i (Ok (start + f, start + end)) r'
     taken_to start r' ps u w =
@@ -154,13 +154,13 @@ module _ (r : Registers) (i : List ℕ) (li : length i ≡ 65536) (b n f end L :
         let e = end_is in
         let z = size_is in
         let l = rest-long in
-        let lo = text-low r in (
+        let lo = text_low r in (
           omega arith,
           omega arith,
           omega arith,
           λ c t k s.
               let m = seen r i c t k s in
-              came_there b n m rest (ap (drop r.seat.source.position.offset) (text-seen r i c t k s)) (omega arith) (omega arith)
+              came_there b n m rest (ap (drop r.seat.source.position.offset) (text_seen r i c t k s)) (omega arith) (omega arith)
               ∙ ap (λ y. given (record { machine = reading_on (y + 1) r.seat.source.word m; bytes = take run rest })) (sym e)
               ∙ ap (λ (y : Machine). given (record { machine = y; bytes = take run rest })) (sym (read_view r r' (end + 1) r.seat.source.word u w i c t k s))
               ∙ ap (λ (y : List ℕ). given (record { machine = seen r' i c t k s; bytes = y })) (part_of i (text_start r.seat) (text_length r.seat) r.seat.source.position.offset run (omega arith))

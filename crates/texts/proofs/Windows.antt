@@ -36,8 +36,8 @@ text_by true n here i h k = line_in n i h
 text_by false n here i h k = buffer_in here i k
 
 -- the text lies in the image
-pub text-seen : (r : Registers) (i c t : List ℕ) (k : List Mark) (s : Meaning) → text_of (seen r i c t k s) ≡ text_in r.seat i
-text-seen r i c t k s = text_by (eqb r.seat.source.position.blk 0) r.seat.source.length r.shared.ends.here i r.line r.space
+pub text_seen : (r : Registers) (i c t : List ℕ) (k : List Mark) (s : Meaning) → text_of (seen r i c t k s) ≡ text_in r.seat i
+text_seen r i c t k s = text_by (eqb r.seat.source.position.blk 0) r.seat.source.length r.shared.ends.here i r.line r.space
 
 short_by : (b : Bool) (n : ℕ) → n ≤ 128 → cond b n 1024 ≤ 1024
 short_by true n h = omega arith
@@ -47,14 +47,14 @@ fits_by : (b : Bool) (n : ℕ) → n ≤ 128 → cond b 128 33024 + cond b n 102
 fits_by true n h = omega arith
 fits_by false n h = omega arith
 
-pub text-short : (r : Registers) → text_length r.seat ≤ 1024
-text-short r = short_by (eqb r.seat.source.position.blk 0) r.seat.source.length r.line
+pub text_short : (r : Registers) → text_length r.seat ≤ 1024
+text_short r = short_by (eqb r.seat.source.position.blk 0) r.seat.source.length r.line
 
-pub text-low : (r : Registers) → text_start r.seat + text_length r.seat ≤ 34048
-text-low r = fits_by (eqb r.seat.source.position.blk 0) r.seat.source.length r.line
+pub text_low : (r : Registers) → text_start r.seat + text_length r.seat ≤ 34048
+text_low r = fits_by (eqb r.seat.source.position.blk 0) r.seat.source.length r.line
 
-pub text-long : (r : Registers) (i : List ℕ) → length i ≡ 65536 → length (text_in r.seat i) ≡ text_length r.seat
-text-long r i l = let b = text-low r in length-take-le (text_length r.seat) (drop (text_start r.seat) i) (simp length-drop (omega arith))
+pub text_long : (r : Registers) (i : List ℕ) → length i ≡ 65536 → length (text_in r.seat i) ≡ text_length r.seat
+text_long r i l = let b = text_low r in length-take-le (text_length r.seat) (drop (text_start r.seat) i) (simp length-drop (omega arith))
 
 -- the next word by its place
 abbrev placed : List ℕ → ℕ → LastWord
@@ -85,23 +85,23 @@ module _ (r : Registers) (i : List ℕ) (li : length i ≡ 65536) where
 
   module _ (start end : ℕ) (p : start ≡ from + prefix_len separates (drop from text)) (q : end ≡ start + prefix_len other (drop start text)) where
     pub next_is : NextIs r i (record { start = start; length = end - start })
-    next_is c t k s = ap (λ (x : List ℕ). placed x from) (text-seen r i c t k s) ∙ placed_is text from start end p q
+    next_is c t k s = ap (λ (x : List ℕ). placed x from) (text_seen r i c t k s) ∙ placed_is text from start end p q
 
-    pub next-inside : 1 ≤ end - start → start + (end - start) ≤ text_length r.seat
-    next-inside h =
+    pub next_inside : 1 ≤ end - start → start + (end - start) ≤ text_length r.seat
+    next_inside h =
         let e = placed_is text from start end p q in
-        let l = text-long r i li in
+        let l = text_long r i li in
         let a : (placed text from).start ≡ start = ap (λ (w : LastWord). w.start) e in
         let b : (placed text from).length ≡ end - start = ap (λ (w : LastWord). w.length) e in
         let d = placed_in text from (omega arith) in
         omega arith
 
-    pub start-short : start ≤ 1024
-    start-short =
+    pub start_short : start ≤ 1024
+    start_short =
         let a = prefix_len-le-length separates (drop from text) in
         let b = length-drop from text in
-        let l = text-long r i li in
-        let m = text-short r in
+        let l = text_long r i li in
+        let m = text_short r in
         let o = r.text in
         omega arith
 
@@ -109,9 +109,9 @@ module _ (r : Registers) (i : List ℕ) (li : length i ≡ 65536) where
     end_short =
         let a = prefix_len-le-length other (drop start text) in
         let b = length-drop start text in
-        let l = text-long r i li in
-        let m = text-short r in
-        let o = start-short in
+        let l = text_long r i li in
+        let m = text_short r in
+        let o = start_short in
         omega arith
 
 -- the machine behind what was read
@@ -127,13 +127,13 @@ taken_as w text m = record { machine = reading_on (min (length text) (w.start + 
 next_by : (m : Machine) → next_word m ≡ taken_as (next_word m).machine.text.source.word (text_of m) m
 next_by m = ap (λ (x : List ℕ). record { machine = (next_word m).machine; bytes = take (next_word m).machine.text.source.word.length x }) (drop-drop (gap (drop (offset m) (text_of m))) (offset m) (text_of m))
 
-next-length : (m : Machine) → length (next_word m).bytes ≡ (next_word m).machine.text.source.word.length
-next-length m =
+next_length : (m : Machine) → length (next_word m).bytes ≡ (next_word m).machine.text.source.word.length
+next_length m =
     let word = drop (gap (drop (offset m) (text_of m))) (drop (offset m) (text_of m)) in
     length-take-le (word_length word) word (rw (word_is word) (prefix_len-le-length other word))
 
 left_by_lem : (m : Machine) (n : ℕ) → (next_word m).machine.text.source.word.length ≡ n → no_word_left m ≡ eqb n 0
-left_by_lem m n e = ap (λ x. eqb x 0) (next-length m ∙ e)
+left_by_lem m n e = ap (λ x. eqb x 0) (next_length m ∙ e)
 
 module _ (r : Registers) (i : List ℕ) (li : length i ≡ 65536) (w : LastWord) (next : NextIs r i w) where
   pub none_left : w.length ≡ 0 → TookWord r i false r
@@ -148,8 +148,8 @@ module _ (r : Registers) (i : List ℕ) (li : length i ≡ 65536) (w : LastWord)
           left_by_lem m w.length (ap (λ (x : LastWord). x.length) (next c t k s)) ∙ o,
           next_by m
               ∙ ap (λ x. taken_as x (text_of m) m) (next c t k s)
-              ∙ ap (λ (x : List ℕ). taken_as w x m) (text-seen r i c t k s)
-              ∙ ap (λ x. record { machine = reading_on (min x (w.start + w.length + 1)) w m; bytes = take w.length (drop w.start (text_in r.seat i)) }) (text-long r i li)
+              ∙ ap (λ (x : List ℕ). taken_as w x m) (text_seen r i c t k s)
+              ∙ ap (λ x. record { machine = reading_on (min x (w.start + w.length + 1)) w m; bytes = take w.length (drop w.start (text_in r.seat i)) }) (text_long r i li)
               ∙ ap (λ (x : Machine). record { machine = x; bytes = take w.length (drop w.start (text_in r.seat i)) }) (sym (read_view r r' (min (text_length r.seat) (w.start + w.length + 1)) w p q i c t k s))
               ∙ ap (λ (x : Seat). record { machine = seen r' i c t k s; bytes = word_in x i }) (sym q),
         ),

@@ -8,7 +8,7 @@ use Rattle.store.specs.Meaning.{Meaning}
 use Rattle.stacks.specs.Stack.{stack_of}
 use Rattle.image.specs.Cells.{cell_at}
 use Rattle.image.specs.Views.{low_of}
-use Rattle.image.proofs.Laws.{length-low, cell-low}
+use Rattle.image.proofs.Laws.{length_low, cell_low}
 use Rattle.definition.specs.declared.registers.Mark.{Mark}
 use Rattle.definition.specs.declared.ranged.Registers.{Registers}
 use Rattle.definition.specs.Machine.{Machine}
@@ -20,7 +20,7 @@ use Rattle.definition.specs.Flow.{in_dictionary}
 use Rattle.definition.proofs.Agreeing.{dp_bottom}
 use Rattle.steps.specs.Seats.{told_by, with_cell_depth}
 use Rattle.steps.specs.Does.{seen, acts, Does, OnSpace}
-use Rattle.steps.proofs.Exits.{refused-at, does_like, has_cells_lem, lacks_cells, has_room_lem, cells-view}
+use Rattle.steps.proofs.Exits.{refused_at, does_like, has_cells_lem, lacks_cells, has_room_lem, cells_view}
 use Rattle.token_words.specs.Numbers.{inside, made_by_create}
 
 -- what is inside, by numbers
@@ -28,11 +28,11 @@ pub inside_tells : (a n dp : ℕ) → inside a n dp ≡ true → (256 ≤ a) × 
 inside_tells a n dp p = (grind (arith, nat_tests), grind (arith, nat_tests))
 
 module _ (r : Registers) (i c : List ℕ) (li : length i ≡ 65536) (lc : length c ≡ 128) where
-  low-long : length (low_of r.shared.ends.dp i) ≡ r.shared.ends.dp
-  low-long = length-low r.shared.ends.dp i (dp_bottom r) (omega (arith, r.top))
+  low_long : length (low_of r.shared.ends.dp i) ≡ r.shared.ends.dp
+  low_long = length_low r.shared.ends.dp i (dp_bottom r) (omega (arith, r.top))
 
   inside_is : (t : List ℕ) (k : List Mark) (s : Meaning) (a n : ℕ) (b : Bool) → inside a n r.shared.ends.dp ≡ b → in_dictionary a n (seen r i c t k s) ≡ b
-  inside_is t k s a n b p = ap (λ d. leb 256 a && leb (a + n) d) low-long ∙ p
+  inside_is t k s a n b p = ap (λ d. leb 256 a && leb (a + n) d) low_long ∙ p
 
   created-no : (m : Machine) (a : ℕ) → in_dictionary a 4 m ≡ false → other_word 202 a m ≡ refused BadToken m
   created-no m a h = rw h
@@ -50,21 +50,21 @@ module _ (r : Registers) (i c : List ℕ) (li : length i ≡ 65536) (lc : length
   Leaves r' c' x o = (i t : List ℕ) (k : List Mark) (s : Meaning) → Does (replaced 0 (x ∷ [])) (seen r i c t k s) o (seen r' i c' t k s)
 
   pub created_bad : (a : ℕ) (e : Fault) → inside a 4 r.shared.ends.dp ≡ false → e ≡ fault_of BadToken (told_by r.seat) → (t : List ℕ) (k : List Mark) (s : Meaning) → Does (other_word 202 a) (seen r i c t k s) (Err e) (seen r i c t k s)
-  created_bad a e h p t k s = refused-at (other_word 202 a) (seen r i c t k s) e BadToken (created-no (seen r i c t k s) a (inside_is t k s a 4 false h)) p
+  created_bad a e h p t k s = refused_at (other_word 202 a) (seen r i c t k s) e BadToken (created-no (seen r i c t k s) a (inside_is t k s a 4 false h)) p
 
   pub created_done : (r' : Registers) (c' : List ℕ) (a x : ℕ) (o : Result (Unit {0}) Fault) → inside a 4 r.shared.ends.dp ≡ true → x ≡ cell_at i (a + 2) → Leaves r' c' x o → (t : List ℕ) (k : List Mark) (s : Meaning) → Does (other_word 202 a) (seen r i c t k s) o (seen r' i c' t k s)
   created_done r' c' a x o h p g t k s =
       let w = inside_tells a 4 r.shared.ends.dp h in
-      let e : cell_at (low_of r.shared.ends.dp i) (a + 2) ≡ x = cell-low r.shared.ends.dp i (a + 2) (omega (arith, w.0)) (omega (arith, w.1)) ∙ sym p in
+      let e : cell_at (low_of r.shared.ends.dp i) (a + 2) ≡ x = cell_low r.shared.ends.dp i (a + 2) (omega (arith, w.0)) (omega (arith, w.1)) ∙ sym p in
       does_like (other_word 202 a) (replaced 0 (x ∷ [])) (seen r i c t k s) (seen r' i c' t k s) o (created-yes (seen r i c t k s) a (inside_is t k s a 4 true h) ∙ ap (λ y. replaced 0 (y ∷ []) (seen r i c t k s)) e) (g i t k s)
 
   pub constant_bad : (a : ℕ) (e : Fault) → inside a 6 r.shared.ends.dp ≡ false → e ≡ fault_of BadToken (told_by r.seat) → (t : List ℕ) (k : List Mark) (s : Meaning) → Does (other_word 203 a) (seen r i c t k s) (Err e) (seen r i c t k s)
-  constant_bad a e h p t k s = refused-at (other_word 203 a) (seen r i c t k s) e BadToken (constant-no (seen r i c t k s) a (inside_is t k s a 6 false h)) p
+  constant_bad a e h p t k s = refused_at (other_word 203 a) (seen r i c t k s) e BadToken (constant-no (seen r i c t k s) a (inside_is t k s a 6 false h)) p
 
   pub constant_done : (r' : Registers) (c' : List ℕ) (a x : ℕ) (o : Result (Unit {0}) Fault) → inside a 6 r.shared.ends.dp ≡ true → x ≡ cell_at i (a + 4) → Leaves r' c' x o → (t : List ℕ) (k : List Mark) (s : Meaning) → Does (other_word 203 a) (seen r i c t k s) o (seen r' i c' t k s)
   constant_done r' c' a x o h p g t k s =
       let w = inside_tells a 6 r.shared.ends.dp h in
-      let e : cell_at (low_of r.shared.ends.dp i) (a + 4) ≡ x = cell-low r.shared.ends.dp i (a + 4) (omega (arith, w.0)) (omega (arith, w.1)) ∙ sym p in
+      let e : cell_at (low_of r.shared.ends.dp i) (a + 4) ≡ x = cell_low r.shared.ends.dp i (a + 4) (omega (arith, w.0)) (omega (arith, w.1)) ∙ sym p in
       does_like (other_word 203 a) (replaced 0 (x ∷ [])) (seen r i c t k s) (seen r' i c' t k s) o (constant-yes (seen r i c t k s) a (inside_is t k s a 6 true h) ∙ ap (λ y. replaced 0 (y ∷ []) (seen r i c t k s)) e) (g i t k s)
 
   -- >BODY
@@ -86,20 +86,20 @@ module _ (r : Registers) (i c : List ℕ) (li : length i ≡ 65536) (lc : length
   made-is : (t : List ℕ) (k : List Mark) (s : Meaning) (b : Bool) → made_by_create (low_of r.shared.ends.dp i) r.shared.ends.dp token ≡ b → (in_dictionary token 4 (seen r i c t k s) && (eqb (cell_at (low_of r.shared.ends.dp i) token) 202 || eqb (cell_at (low_of r.shared.ends.dp i) token) 205)) ≡ b
   made-is t k s b p = ap (λ y. y && (eqb (cell_at (low_of r.shared.ends.dp i) token) 202 || eqb (cell_at (low_of r.shared.ends.dp i) token) 205)) (inside_is t k s token 4 (inside token 4 r.shared.ends.dp) refl) ∙ p
 
-  pub body-short : (e : Fault) → r.seat.depths.cells < 1 → e ≡ fault_of StackUnderflow (told_by r.seat) → OnSpace 61 r i c (Err e) r i c
-  body-short e h p = λ again a t k s. refused-at (acts 61 again a) (seen r i c t k s) e StackUnderflow (body-short-at again a (seen r i c t k s) (lacks_cells r i c t k s lc 1 h)) p
+  pub body_short : (e : Fault) → r.seat.depths.cells < 1 → e ≡ fault_of StackUnderflow (told_by r.seat) → OnSpace 61 r i c (Err e) r i c
+  body_short e h p = λ again a t k s. refused_at (acts 61 again a) (seen r i c t k s) e StackUnderflow (body-short-at again a (seen r i c t k s) (lacks_cells r i c t k s lc 1 h)) p
 
   pub body_bad : (x : ℕ) (e : Fault) → 1 ≤ r.seat.depths.cells → x ≡ token → made_by_create (low_of r.shared.ends.dp i) r.shared.ends.dp x ≡ false → e ≡ fault_of BadToken (told_by r.seat) → OnSpace 61 r i c (Err e) r i c
-  body_bad x e h q g p = λ again a t k s. refused-at (acts 61 again a) (seen r i c t k s) e BadToken (body-no again a (seen r i c t k s) (has_cells_lem r i c t k s lc 1 h) (made-is t k s false (ap (made_by_create (low_of r.shared.ends.dp i) r.shared.ends.dp) (sym q) ∙ g))) p
+  body_bad x e h q g p = λ again a t k s. refused_at (acts 61 again a) (seen r i c t k s) e BadToken (body-no again a (seen r i c t k s) (has_cells_lem r i c t k s lc 1 h) (made-is t k s false (ap (made_by_create (low_of r.shared.ends.dp i) r.shared.ends.dp) (sym q) ∙ g))) p
 
   made_inside : (low : List ℕ) (dp x : ℕ) → made_by_create low dp x ≡ true → inside x 4 dp ≡ true
   made_inside low dp x p = grind (arith, nat_tests)
 
-  pub body-done : (r' : Registers) (c' : List ℕ) (x y : ℕ) → 1 ≤ r.seat.depths.cells → x ≡ token → made_by_create (low_of r.shared.ends.dp i) r.shared.ends.dp x ≡ true → y ≡ cell_at i (x + 2) → r'.shared ≡ r.shared → r'.seat ≡ with_cell_depth (r.seat.depths.cells - 1 + 1) r.seat → stack_of (r.seat.depths.cells - 1 + 1) c' ≡ y ∷ drop 1 (stack_of r.seat.depths.cells c) → OnSpace 61 r i c (Ok tt) r' i c'
-  body-done r' c' x y h q g v u w e = λ again a t k s.
+  pub body_done : (r' : Registers) (c' : List ℕ) (x y : ℕ) → 1 ≤ r.seat.depths.cells → x ≡ token → made_by_create (low_of r.shared.ends.dp i) r.shared.ends.dp x ≡ true → y ≡ cell_at i (x + 2) → r'.shared ≡ r.shared → r'.seat ≡ with_cell_depth (r.seat.depths.cells - 1 + 1) r.seat → stack_of (r.seat.depths.cells - 1 + 1) c' ≡ y ∷ drop 1 (stack_of r.seat.depths.cells c) → OnSpace 61 r i c (Ok tt) r' i c'
+  body_done r' c' x y h q g v u w e = λ again a t k s.
       let m = seen r i c t k s in
       let g' : made_by_create (low_of r.shared.ends.dp i) r.shared.ends.dp token ≡ true = ap (made_by_create (low_of r.shared.ends.dp i) r.shared.ends.dp) (sym q) ∙ g in
       let b = inside_tells token 4 r.shared.ends.dp (made_inside (low_of r.shared.ends.dp i) r.shared.ends.dp token g') in
-      let f : cell_at (low_of r.shared.ends.dp i) (token + 2) ≡ y = cell-low r.shared.ends.dp i (token + 2) (omega (arith, b.0)) (omega (arith, b.1)) ∙ ap (λ z. cell_at i (z + 2)) (sym q) ∙ sym v in
+      let f : cell_at (low_of r.shared.ends.dp i) (token + 2) ≡ y = cell_low r.shared.ends.dp i (token + 2) (omega (arith, b.0)) (omega (arith, b.1)) ∙ ap (λ z. cell_at i (z + 2)) (sym q) ∙ sym v in
       body-yes again a m (has_cells_lem r i c t k s lc 1 h) (made-is t k s true g') ∙ ap (λ z. replaced 1 (z ∷ []) m) f
-      ∙ rw (has_room_lem r i c t k s lc 1 1 h (omega (arith, r.cells))) (ap quietly (sym (cells-view r r' i c c' t k s _ _ u w e)))
+      ∙ rw (has_room_lem r i c t k s lc 1 1 h (omega (arith, r.cells))) (ap quietly (sym (cells_view r r' i c c' t k s _ _ u w e)))

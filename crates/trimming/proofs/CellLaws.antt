@@ -45,9 +45,9 @@ unfolding fall
 fall_down zero low w h l = refl
 fall_down (suc n) low w h l = rw (lt-ltb h w l)
 
-pub fall-step : (n : ℕ) (low : List ℕ) (w h : ℕ) → w ≤ h → fall (suc n) low w h ≡ fall n low w (cell_at low h)
+pub fall_step : (n : ℕ) (low : List ℕ) (w h : ℕ) → w ≤ h → fall (suc n) low w h ≡ fall n low w (cell_at low h)
 unfolding fall
-fall-step n low w h l = rw (le-ltb h w l)
+fall_step n low w h l = rw (le-ltb h w l)
 
 -- what being in order says
 pub in_parts : (low : List ℕ) (before e : ℕ) → ordered low before e ≡ true → (258 ≤ e) × (e < before) × (e + 7 + name_length low e ≤ length low)

@@ -7,12 +7,12 @@ use Rattle.dictionary.specs.Trim.{fall, trim_voc, trim_vocs, chain, left, link_o
 use Rattle.trimming.proofs.CellLaws.{cell_of_bytes, at_other, length-set_cell}
 use Rattle.dictionary.specs.Trim.{in_chain, chained, threads}
 use Rattle.trimming.specs.Chains.{Falls, KeptAt, Kept, none, some}
-use Rattle.trimming.proofs.FallLaws.{threads-fall, falls_agree, trim_step, trim_done}
+use Rattle.trimming.proofs.FallLaws.{threads_fall, falls_agree, trim_step, trim_done}
 
 -- THE CHAIN, as it is asked
-pub in-chain-parts : (low : List ℕ) (w before k : ℕ) → in_chain low w before k ≡ true → (266 ≤ k) × (k + 2 ≤ before) × ((w < k - 8) ⊎ ((k + 4 ≤ w) × (threads low w (k - 8) ≡ true)))
+pub in_chain_parts : (low : List ℕ) (w before k : ℕ) → in_chain low w before k ≡ true → (266 ≤ k) × (k + 2 ≤ before) × ((w < k - 8) ⊎ ((k + 4 ≤ w) × (threads low w (k - 8) ≡ true)))
 unfolding in_chain
-in-chain-parts low w before k h =
+in_chain_parts low w before k h =
     let p = and_parts (leb 266 k) _ h in
     let q = and_parts (leb (k + 2) before) _ p.1 in (
       leb-true 266 k p.0,
@@ -23,17 +23,17 @@ in-chain-parts low w before k h =
       ],
     )
 
-pub chained-end : (n : ℕ) (low : List ℕ) (w before k : ℕ) → k ≡ 0 → chained (suc n) low w before k ≡ true
+pub chained_end : (n : ℕ) (low : List ℕ) (w before k : ℕ) → k ≡ 0 → chained (suc n) low w before k ≡ true
 unfolding chained
-chained-end n low w before k h = ap (λ b. b || (in_chain low w before k && chained n low w (k - 8) (cell_at low k))) (eq-eqb k 0 h)
+chained_end n low w before k h = ap (λ b. b || (in_chain low w before k && chained n low w (k - 8) (cell_at low k))) (eq-eqb k 0 h)
 
 pub chained_broken : (n : ℕ) (low : List ℕ) (w before k : ℕ) → k ≢ 0 → in_chain low w before k ≡ false → chained (suc n) low w before k ≡ false
 unfolding chained
 chained_broken n low w before k h o = ap (λ b. b || (in_chain low w before k && chained n low w (k - 8) (cell_at low k))) (ne_eqb k 0 h) ∙ ap (λ b. b && chained n low w (k - 8) (cell_at low k)) o
 
-pub chained-next : (n : ℕ) (low : List ℕ) (w before k : ℕ) → k ≢ 0 → in_chain low w before k ≡ true → chained (suc n) low w before k ≡ chained n low w (k - 8) (cell_at low k)
+pub chained_next : (n : ℕ) (low : List ℕ) (w before k : ℕ) → k ≢ 0 → in_chain low w before k ≡ true → chained (suc n) low w before k ≡ chained n low w (k - 8) (cell_at low k)
 unfolding chained
-chained-next n low w before k h o = ap (λ b. b || (in_chain low w before k && chained n low w (k - 8) (cell_at low k))) (ne_eqb k 0 h) ∙ ap (λ b. b && chained n low w (k - 8) (cell_at low k)) o
+chained_next n low w before k h o = ap (λ b. b || (in_chain low w before k && chained n low w (k - 8) (cell_at low k))) (ne_eqb k 0 h) ∙ ap (λ b. b && chained n low w (k - 8) (cell_at low k)) o
 
 -- where the questions have come
 pub record Asking (low : List ℕ) (w before k : ℕ) (r : Bool) : Type 0 where
@@ -41,18 +41,18 @@ pub record Asking (low : List ℕ) (w before k : ℕ) (r : Bool) : Type 0 where
   pub enough : before ≤ fuel
   pub goes : r ≡ chained (suc fuel) low w before k
 
-pub asking-start : (dp : ℕ) (low : List ℕ) (w k : ℕ) → Asking low w dp k (chained (dp + 1) low w dp k)
-asking-start dp low w k = record { fuel = dp; enough = omega arith; goes = let e : dp + 1 ≡ suc dp = omega arith in ap (λ n. chained n low w dp k) e }
+pub asking_start : (dp : ℕ) (low : List ℕ) (w k : ℕ) → Asking low w dp k (chained (dp + 1) low w dp k)
+asking_start dp low w k = record { fuel = dp; enough = omega arith; goes = let e : dp + 1 ≡ suc dp = omega arith in ap (λ n. chained n low w dp k) e }
 
 pub asking_more : (low : List ℕ) (w before k : ℕ) (r : Bool) → Asking low w before k r → k ≢ 0 → in_chain low w before k ≡ true → Asking low w (k - 8) (cell_at low k) r
 asking_more low w before k r a h o = go a.fuel a.enough a.goes
   where
     go : (n : ℕ) → before ≤ n → r ≡ chained (suc n) low w before k → Asking low w (k - 8) (cell_at low k) r
-    go zero l g = let p = in-chain-parts low w before k o in (let z : ⊥ = omega (arith, p.1) in absurd z)
-    go (suc n) l g = let p = in-chain-parts low w before k o in record { fuel = n; enough = omega (arith, p.1); goes = g ∙ chained-next (suc n) low w before k h o }
+    go zero l g = let p = in_chain_parts low w before k o in (let z : ⊥ = omega (arith, p.1) in absurd z)
+    go (suc n) l g = let p = in_chain_parts low w before k o in record { fuel = n; enough = omega (arith, p.1); goes = g ∙ chained_next (suc n) low w before k h o }
 
-pub asking-end : (low : List ℕ) (w before k : ℕ) (r : Bool) → Asking low w before k r → k ≡ 0 → r ≡ true
-asking-end low w before k r a h = a.goes ∙ chained-end a.fuel low w before k h
+pub asking_end : (low : List ℕ) (w before k : ℕ) (r : Bool) → Asking low w before k r → k ≡ 0 → r ≡ true
+asking_end low w before k r a h = a.goes ∙ chained_end a.fuel low w before k h
 
 pub asking_broken : (low : List ℕ) (w before k : ℕ) (r : Bool) → Asking low w before k r → k ≢ 0 → in_chain low w before k ≡ false → r ≡ false
 asking_broken low w before k r a h o = a.goes ∙ chained_broken a.fuel low w before k h o
@@ -62,10 +62,10 @@ pub data Chained (low : List ℕ) (w : ℕ) : ℕ → ℕ → List ℕ → Type 
   ends : {before k : ℕ} → k ≡ 0 → Chained low w before k []
   more : {before k : ℕ} {vs : List ℕ} → in_chain low w before k ≡ true → Chained low w (k - 8) (cell_at low k) vs → Chained low w before k ((k - 8) ∷ vs)
 
-chain-end : (m : ℕ) (low : List ℕ) (k : ℕ) → k ≡ 0 → chain m low k ≡ []
+chain_end : (m : ℕ) (low : List ℕ) (k : ℕ) → k ≡ 0 → chain m low k ≡ []
 unfolding chain
-chain-end zero low k h = refl
-chain-end (suc m) low k h = cond-true (eqb k 0) _ _ (eq-eqb k 0 h)
+chain_end zero low k h = refl
+chain_end (suc m) low k h = cond-true (eqb k 0) _ _ (eq-eqb k 0 h)
 
 chain_next : (m : ℕ) (low : List ℕ) (k : ℕ) → k ≢ 0 → chain (suc m) low k ≡ (k - 8) ∷ chain m low (cell_at low k)
 unfolding chain
@@ -74,36 +74,36 @@ chain_next m low k h = cond-false (eqb k 0) _ _ (ne_eqb k 0 h)
 pub chained_on : (n : ℕ) (low : List ℕ) (w before k m : ℕ) → chained n low w before k ≡ true → before ≤ m → Chained low w before k (chain m low k)
 chained_on zero low w before k m h l = let z : ◌≡◌ {A = Bool} false true = (unfold chained in h) in absurd (false≢true z)
 chained_on (suc n) low w before k m h l = elim (cases_eq k 0) [
-  | inl z ↦ rw (chain-end m low k z) (ends z)
+  | inl z ↦ rw (chain_end m low k z) (ends z)
   | inr z ↦ deep z (in_chain low w before k) refl m l (λ e j o. chained_on n low w (k - 8) (cell_at low k) j e o)
 ]
   where
     deep : k ≢ 0 → (q : Bool) → in_chain low w before k ≡ q → (m : ℕ) → before ≤ m
         → (chained n low w (k - 8) (cell_at low k) ≡ true → (j : ℕ) → k - 8 ≤ j → Chained low w (k - 8) (cell_at low k) (chain j low (cell_at low k))) → Chained low w before k (chain m low k)
     deep z false q m l r = absurd (false≢true (sym (chained_broken n low w before k z q) ∙ h))
-    deep z true q zero l r = let p = in-chain-parts low w before k q in absurd (omega (arith, p.1))
-    deep z true q (suc m) l r = let p = in-chain-parts low w before k q in
-        rw (chain_next m low k z) (more q (r (sym (chained-next n low w before k z q) ∙ h) m (omega (arith, p.1))))
+    deep z true q zero l r = let p = in_chain_parts low w before k q in absurd (omega (arith, p.1))
+    deep z true q (suc m) l r = let p = in_chain_parts low w before k q in
+        rw (chain_next m low k z) (more q (r (sym (chained_next n low w before k z q) ∙ h) m (omega (arith, p.1))))
 
 chained_le : (low : List ℕ) (w before k : ℕ) (vs : List ℕ) → Chained low w before k vs → k ≤ before
 chained_le low w before k vs (ends z) = omega arith
-chained_le low w before k vs (more q r) = let p = in-chain-parts low w before k q in omega (arith, p.1)
+chained_le low w before k vs (more q r) = let p = in_chain_parts low w before k q in omega (arith, p.1)
 
 -- those not named above w stay
-pub chained-kept : (low : List ℕ) (w before k : ℕ) (vs : List ℕ) → Chained low w before k vs → k ≤ w + 8 → Kept low w before k vs
-chained-kept low w before k vs (ends z) h = none z
-chained-kept low w before k vs (more {vs = us} q r) h =
-    let p = in-chain-parts low w before k q in
+pub chained_kept : (low : List ℕ) (w before k : ℕ) (vs : List ℕ) → Chained low w before k vs → k ≤ w + 8 → Kept low w before k vs
+chained_kept low w before k vs (ends z) h = none z
+chained_kept low w before k vs (more {vs = us} q r) h =
+    let p = in_chain_parts low w before k q in
     let l = chained_le low w (k - 8) (cell_at low k) us r in
     elim p.2 [
       | inl x ↦ absurd (omega (arith, x))
-      | inr x ↦ some (record { above = p.0; below = p.1; under = x.0; can = threads-fall low w (k - 8) x.1 }) (chained-kept low w (k - 8) (cell_at low k) us r (omega (arith, l, p.0)))
+      | inr x ↦ some (record { above = p.0; below = p.1; under = x.0; can = threads_fall low w (k - 8) x.1 }) (chained_kept low w (k - 8) (cell_at low k) us r (omega (arith, l, p.0)))
     ]
 
-pub kept-left : (low : List ℕ) (w before k : ℕ) (vs : List ℕ) → Kept low w before k vs → left w vs ≡ vs
+pub kept_left : (low : List ℕ) (w before k : ℕ) (vs : List ℕ) → Kept low w before k vs → left w vs ≡ vs
 unfolding left
-kept-left low w before k vs (none z) = refl
-kept-left low w before k vs (some {vs = us} a r) = cond-false (ltb w (k - 8)) _ _ (le-ltb w (k - 8) (omega (arith, a.under)))
+kept_left low w before k vs (none z) = refl
+kept_left low w before k vs (some {vs = us} a r) = cond-false (ltb w (k - 8)) _ _ (le-ltb w (k - 8) (omega (arith, a.under)))
 
 pub kept_link : (low : List ℕ) (w before k : ℕ) (vs : List ℕ) → Kept low w before k vs → k ≡ link_of vs
 unfolding link_of
@@ -128,7 +128,7 @@ skip_facts low w dp k all s h = go s.before s.vs s.within s.chain s.same
     go : (b : ℕ) (vs : List ℕ) → b ≤ dp → Chained low w b k vs → left w all ≡ left w vs → (k + 2 ≤ dp) × (cell_at low k < k) × Skipping low w dp (cell_at low k) all × (266 ≤ k)
     go b vs l (ends z) e = absurd (omega arith)
     go b vs l (more {vs = us} q r) e =
-        let p = in-chain-parts low w b k q in
+        let p = in_chain_parts low w b k q in
         let o = chained_le low w (k - 8) (cell_at low k) us r in (
           omega (arith, p.1),
           omega (arith, p.0, o),
@@ -144,13 +144,13 @@ skip_facts low w dp k all s h = go s.before s.vs s.within s.chain s.same
 
 pub skip_kept : (low : List ℕ) (w dp k : ℕ) (all : List ℕ) → Skipping low w dp k all → k ≤ w + 8 → Kept low w dp k (left w all)
 skip_kept low w dp k all s h =
-    let t = chained-kept low w s.before k s.vs s.chain h in
-    rw (s.same, kept-left low w s.before k s.vs t) (kept_wide low w s.before dp k s.vs s.within t)
+    let t = chained_kept low w s.before k s.vs s.chain h in
+    rw (s.same, kept_left low w s.before k s.vs t) (kept_wide low w s.before dp k s.vs s.within t)
 
-pub kept-chain : (low : List ℕ) (w before k m : ℕ) (vs : List ℕ) → before ≤ m → Kept low w before k vs → chain m low k ≡ vs
-kept-chain low w before k m vs l (none z) = chain-end m low k z
-kept-chain low w before k zero vs l (some {vs = us} a r) = absurd (omega (arith, a.above, a.below))
-kept-chain low w before k (suc m) vs l (some {vs = us} a r) = chain_next m low k (λ z. omega (arith, a.above)) ∙ ap (λ t. (k - 8) ∷ t) (kept-chain low w (k - 8) (cell_at low k) m us (omega (arith, a.below)) r)
+pub kept_chain : (low : List ℕ) (w before k m : ℕ) (vs : List ℕ) → before ≤ m → Kept low w before k vs → chain m low k ≡ vs
+kept_chain low w before k m vs l (none z) = chain_end m low k z
+kept_chain low w before k zero vs l (some {vs = us} a r) = absurd (omega (arith, a.above, a.below))
+kept_chain low w before k (suc m) vs l (some {vs = us} a r) = chain_next m low k (λ z. omega (arith, a.above)) ∙ ap (λ t. (k - 8) ∷ t) (kept_chain low w (k - 8) (cell_at low k) m us (omega (arith, a.below)) r)
 
 -- MOVING the heads
 pub length-trim_voc : (w v k : ℕ) (low : List ℕ) → length (trim_voc w v k low) ≡ length low
@@ -158,25 +158,25 @@ unfolding trim_voc
 length-trim_voc w v zero low = refl
 length-trim_voc w v (suc k) low = length-trim_voc w v k _ ∙ length-set_cell low _ _
 
-pub at-trim_voc : (w v k : ℕ) (low : List ℕ) (a : ℕ) → (a < v) ⊎ (v + 2 * k ≤ a) → at (trim_voc w v k low) a ≡ at low a
+pub at_trim_voc : (w v k : ℕ) (low : List ℕ) (a : ℕ) → (a < v) ⊎ (v + 2 * k ≤ a) → at (trim_voc w v k low) a ≡ at low a
 unfolding trim_voc
-at-trim_voc w v zero low a h = refl
-at-trim_voc w v (suc k) low a (inl h) = at-trim_voc w v k _ a (inl h) ∙ at_other low (v + 2 * k) _ a (omega arith) (omega arith)
-at-trim_voc w v (suc k) low a (inr h) = at-trim_voc w v k _ a (inr (omega arith)) ∙ at_other low (v + 2 * k) _ a (omega arith) (omega arith)
+at_trim_voc w v zero low a h = refl
+at_trim_voc w v (suc k) low a (inl h) = at_trim_voc w v k _ a (inl h) ∙ at_other low (v + 2 * k) _ a (omega arith) (omega arith)
+at_trim_voc w v (suc k) low a (inr h) = at_trim_voc w v k _ a (inr (omega arith)) ∙ at_other low (v + 2 * k) _ a (omega arith) (omega arith)
 
 -- the vocabularies below leave what lies above them
-at-trim_vocs : (low : List ℕ) (w before k : ℕ) (vs : List ℕ) → Kept low w before k vs → (new : List ℕ) (a : ℕ) → before ≤ a → at (trim_vocs w vs new) a ≡ at new a
+at_trim_vocs : (low : List ℕ) (w before k : ℕ) (vs : List ℕ) → Kept low w before k vs → (new : List ℕ) (a : ℕ) → before ≤ a → at (trim_vocs w vs new) a ≡ at new a
 unfolding trim_vocs
-at-trim_vocs low w before k vs (none z) new a h = refl
-at-trim_vocs low w before k vs (some {vs = us} c r) new a h =
-    at-trim_vocs low w (k - 8) (cell_at low k) us r (trim_voc w (k - 8) 4 new) a (omega (arith, c.below)) ∙ at-trim_voc w (k - 8) 4 new a (inr (omega (arith, c.above, c.below)))
+at_trim_vocs low w before k vs (none z) new a h = refl
+at_trim_vocs low w before k vs (some {vs = us} c r) new a h =
+    at_trim_vocs low w (k - 8) (cell_at low k) us r (trim_voc w (k - 8) 4 new) a (omega (arith, c.below)) ∙ at_trim_voc w (k - 8) 4 new a (inr (omega (arith, c.above, c.below)))
 
-youngest_in-agree : (v k : ℕ) (low new : List ℕ) → ((a : ℕ) → v ≤ a → a < v + 2 * k → at low a ≡ at new a) → youngest_in v k low ≡ youngest_in v k new
+youngest_in_agree : (v k : ℕ) (low new : List ℕ) → ((a : ℕ) → v ≤ a → a < v + 2 * k → at low a ≡ at new a) → youngest_in v k low ≡ youngest_in v k new
 unfolding youngest_in
-youngest_in-agree v zero low new f = refl
-youngest_in-agree v (suc k) low new f =
+youngest_in_agree v zero low new f = refl
+youngest_in_agree v (suc k) low new f =
     let e = cell_of_bytes low new (v + 2 * k) (f (v + 2 * k) (omega arith) (omega arith)) (f (v + 2 * k + 1) (omega arith) (omega arith)) in
-    let i = youngest_in-agree v k low new (λ a x y. f a x (omega arith)) in
+    let i = youngest_in_agree v k low new (λ a x y. f a x (omega arith)) in
     cc
 
 youngest_cons : (v : ℕ) (vs low : List ℕ) → youngest (v ∷ vs) low ≡ max (youngest_in v 4 low) (youngest vs low)
@@ -212,13 +212,13 @@ pub record Moving (start : List ℕ) (w k young : ℕ) (low all : List ℕ) : Ty
 pub moving_start : (start : List ℕ) (w before k : ℕ) (vs : List ℕ) → Kept start w before k vs → Moving start w k 0 start vs
 moving_start start w before k vs h = record { before = before; vs = vs; kept = h; goes = refl; size = refl; below = λ a _. refl; above = λ a _. refl; newest = omega arith }
 
-kept-some : (low : List ℕ) (w before k : ℕ) (vs : List ℕ) → Kept low w before k vs → k ≢ 0 → KeptAt low w before k × ((us : List ℕ) × (vs ≡ (k - 8) ∷ us) × Kept low w (k - 8) (cell_at low k) us)
-kept-some low w before k vs (none z) h = absurd (h z)
-kept-some low w before k vs (some {vs = us} a r) h = (a, (us, refl, r))
+kept_some : (low : List ℕ) (w before k : ℕ) (vs : List ℕ) → Kept low w before k vs → k ≢ 0 → KeptAt low w before k × ((us : List ℕ) × (vs ≡ (k - 8) ∷ us) × Kept low w (k - 8) (cell_at low k) us)
+kept_some low w before k vs (none z) h = absurd (h z)
+kept_some low w before k vs (some {vs = us} a r) h = (a, (us, refl, r))
 
 pub moving_facts : (start : List ℕ) (w k young : ℕ) (low all : List ℕ) → Moving start w k young low all → k ≢ 0 → (266 ≤ k) × (k + 4 ≤ w) × Falls low w (k - 8) 4
 moving_facts start w k young low all m h =
-    let p = (kept-some start w m.before k m.vs m.kept h).0 in
+    let p = (kept_some start w m.before k m.vs m.kept h).0 in
     (p.above, p.under, falls_agree start low w (k - 8) 4 (sym m.size) (λ a b. sym (m.above a b)) (λ a b c. sym (m.below a (omega (arith, p.above)))) p.can)
 
 kept_le : (low : List ℕ) (w before k : ℕ) (vs : List ℕ) → Kept low w before k vs → k ≤ before
@@ -231,7 +231,7 @@ kept_lower low w before k vs h (some a r) = a.below
 
 pub moving_more : (start : List ℕ) (w k young : ℕ) (low new all : List ℕ) → Moving start w k young low all → k ≢ 0 → new ≡ trim_voc w (k - 8) 4 low
     → (cell_at new k < k) × Moving start w (cell_at new k) (max (youngest_in (k - 8) 4 new) young) new all
-moving_more start w k young low new all m h e = go (kept-some start w m.before k m.vs m.kept h)
+moving_more start w k young low new all m h e = go (kept_some start w m.before k m.vs m.kept h)
   where
     go : KeptAt start w m.before k × ((us : List ℕ) × (m.vs ≡ (k - 8) ∷ us) × Kept start w (k - 8) (cell_at start k) us) → (cell_at new k < k) × Moving start w (cell_at new k) (max (youngest_in (k - 8) 4 new) young) new all
     go (p, (us, q, r)) = (
@@ -242,8 +242,8 @@ moving_more start w k young low new all m h e = go (kept-some start w m.before k
         kept = rw link r;
         goes = final;
         size = ap length e ∙ (length-trim_voc w (k - 8) 4 low ∙ m.size);
-        below = λ a x. ap (λ z. at z a) e ∙ (at-trim_voc w (k - 8) 4 low a (inl (omega (arith, under, link))) ∙ m.below a (omega (arith, under, link, p.above)));
-        above = λ a x. ap (λ z. at z a) e ∙ (at-trim_voc w (k - 8) 4 low a (inr (omega (arith, p.above, p.under))) ∙ m.above a x);
+        below = λ a x. ap (λ z. at z a) e ∙ (at_trim_voc w (k - 8) 4 low a (inl (omega (arith, under, link))) ∙ m.below a (omega (arith, under, link, p.above)));
+        above = λ a x. ap (λ z. at z a) e ∙ (at_trim_voc w (k - 8) 4 low a (inr (omega (arith, p.above, p.under))) ∙ m.above a x);
         newest = young_more _ young _ _ _ m.newest (ap (λ t. youngest t G) q ∙ (youngest_cons (k - 8) us G ∙ ap (λ x. max x (youngest us G)) heads));
       },
     )
@@ -255,7 +255,7 @@ moving_more start w k young low new all m h e = go (kept-some start w m.before k
         under = kept_lower start w (k - 8) (cell_at start k) us (omega (arith, p.above)) r
 
         byte : (a : ℕ) → k ≤ a → a < k + 2 → at new a ≡ at start a
-        byte a x y = ap (λ z. at z a) e ∙ (at-trim_voc w (k - 8) 4 low a (inr (omega (arith, p.above))) ∙ m.below a y)
+        byte a x y = ap (λ z. at z a) e ∙ (at_trim_voc w (k - 8) 4 low a (inr (omega (arith, p.above))) ∙ m.below a y)
 
         link : cell_at new k ≡ cell_at start k
         link = cell_of_bytes new start k (byte k (omega arith) (omega arith)) (byte (k + 1) (omega arith) (omega arith))
@@ -264,7 +264,7 @@ moving_more start w k young low new all m h e = go (kept-some start w m.before k
         final = m.goes ∙ (ap (λ t. trim_vocs w t low) q ∙ (trim_vocs_cons w (k - 8) us low ∙ ap (trim_vocs w us) (sym e)))
 
         heads : youngest_in (k - 8) 4 G ≡ youngest_in (k - 8) 4 new
-        heads = youngest_in-agree (k - 8) 4 G new (λ a x y. get_or-take (w - 2) (trim_vocs w all start) a 0 (omega (arith, p.under)) ∙ (ap (λ z. at z a) final ∙ at-trim_vocs start w (k - 8) (cell_at start k) us r new a x))
+        heads = youngest_in_agree (k - 8) 4 G new (λ a x y. get_or-take (w - 2) (trim_vocs w all start) a 0 (omega (arith, p.under)) ∙ (ap (λ z. at z a) final ∙ at_trim_vocs start w (k - 8) (cell_at start k) us r new a x))
 
 pub moving_end : (start : List ℕ) (w k young : ℕ) (low all : List ℕ) → Moving start w k young low all → k ≡ 0 → (low ≡ trim_vocs w all start) × (young ≡ youngest all (take (w - 2) (trim_vocs w all start)))
 moving_end start w k young low all m h = go m.vs m.kept m.goes m.newest

@@ -4,7 +4,7 @@ use Rattle.std.proofs.lemmas.Bool.{eqb-true, eqb-false, ltb-true, ltb-false, leb
 use Rattle.image.specs.Cells.{cell_at, at, set_cell}
 use Rattle.dictionary.specs.Trim.{fall, trim_voc}
 use Rattle.trimming.proofs.CellLaws.{cell_of_bytes, cell_other, at_other, length-set_cell}
-use Rattle.trimming.proofs.CellLaws.{fall_down, fall-step}
+use Rattle.trimming.proofs.CellLaws.{fall_down, fall_step}
 use Rattle.dictionary.specs.Trim.{ordered}
 use Rattle.dictionary.specs.Trim.{drops, fell, lands, falls_at, threads}
 use Rattle.trimming.specs.Chains.{Falls}
@@ -12,17 +12,17 @@ use Rattle.entries.specs.Entries.{first_at}
 use Rattle.trimming.proofs.CellLaws.{in_parts}
 
 -- STEPS
-pub drops-end : (n : ℕ) (low : List ℕ) (w before e : ℕ) → e < w → drops (suc n) low w before e ≡ Some e
+pub drops_end : (n : ℕ) (low : List ℕ) (w before e : ℕ) → e < w → drops (suc n) low w before e ≡ Some e
 unfolding drops
-drops-end n low w before e h = cond-true (ltb e w) _ _ (lt-ltb e w h)
+drops_end n low w before e h = cond-true (ltb e w) _ _ (lt-ltb e w h)
 
 pub drops_broken : (n : ℕ) (low : List ℕ) (w before e : ℕ) → w ≤ e → ordered low before e ≡ false → drops (suc n) low w before e ≡ None
 unfolding drops
 drops_broken n low w before e h o = cond-false (ltb e w) _ _ (le-ltb e w h) ∙ cond-false (ordered low before e) _ _ o
 
-pub drops-next : (n : ℕ) (low : List ℕ) (w before e : ℕ) → w ≤ e → ordered low before e ≡ true → drops (suc n) low w before e ≡ drops n low w e (cell_at low e)
+pub drops_next : (n : ℕ) (low : List ℕ) (w before e : ℕ) → w ≤ e → ordered low before e ≡ true → drops (suc n) low w before e ≡ drops n low w e (cell_at low e)
 unfolding drops
-drops-next n low w before e h o = cond-false (ltb e w) _ _ (le-ltb e w h) ∙ cond-true (ordered low before e) _ _ o
+drops_next n low w before e h o = cond-false (ltb e w) _ _ (le-ltb e w h) ∙ cond-true (ordered low before e) _ _ o
 
 -- where a fall has come
 pub record Down (low : List ℕ) (w before e : ℕ) (r : Option ℕ) : Type 0 where
@@ -39,10 +39,10 @@ down_more low w before e r a h o = go a.fuel a.enough a.goes
   where
     go : (n : ℕ) → before ≤ n → r ≡ drops (suc n) low w before e → Down low w e (cell_at low e) r
     go zero l g = let p = in_parts low before e o in (let z : ⊥ = omega arith in absurd z)
-    go (suc n) l g = let p = in_parts low before e o in record { fuel = n; enough = omega arith; goes = g ∙ drops-next (suc n) low w before e h o }
+    go (suc n) l g = let p = in_parts low before e o in record { fuel = n; enough = omega arith; goes = g ∙ drops_next (suc n) low w before e h o }
 
 pub down_end : (low : List ℕ) (w before e : ℕ) (r : Option ℕ) → Down low w before e r → e < w → r ≡ Some e
-down_end low w before e r a h = a.goes ∙ drops-end a.fuel low w before e h
+down_end low w before e r a h = a.goes ∙ drops_end a.fuel low w before e h
 
 pub down_broken : (low : List ℕ) (w before e : ℕ) (r : Option ℕ) → Down low w before e r → w ≤ e → ordered low before e ≡ false → r ≡ None
 down_broken low w before e r a h o = a.goes ∙ drops_broken a.fuel low w before e h o
@@ -52,42 +52,42 @@ abbrev Same : Option ℕ → ℕ → Type 0
 Same (Some x) y = y ≡ x
 Same None y = Unit {0}
 
-drops-fall : (n : ℕ) (low : List ℕ) (w before e m : ℕ) → before ≤ m → Same (drops n low w before e) (fall m low w e)
-drops-fall zero low w before e m l = unfold drops in tt
-drops-fall (suc n) low w before e m l = elim (cases_lt e w) [
-  | inl h ↦ rw (drops-end n low w before e h) (fall_down m low w e h)
-  | inr h ↦ deep (ordered low before e) refl h m l (λ j o. drops-fall n low w e (cell_at low e) j o)
+drops_fall : (n : ℕ) (low : List ℕ) (w before e m : ℕ) → before ≤ m → Same (drops n low w before e) (fall m low w e)
+drops_fall zero low w before e m l = unfold drops in tt
+drops_fall (suc n) low w before e m l = elim (cases_lt e w) [
+  | inl h ↦ rw (drops_end n low w before e h) (fall_down m low w e h)
+  | inr h ↦ deep (ordered low before e) refl h m l (λ j o. drops_fall n low w e (cell_at low e) j o)
 ]
   where
     deep : (q : Bool) → ordered low before e ≡ q → w ≤ e → (m : ℕ) → before ≤ m → ((j : ℕ) → e ≤ j → Same (drops n low w e (cell_at low e)) (fall j low w (cell_at low e))) → Same (drops (suc n) low w before e) (fall m low w e)
     deep false hq h m l k = rw (drops_broken n low w before e h hq) tt
     deep true hq h zero l k = let p = in_parts low before e hq in (let z : ⊥ = omega arith in absurd z)
-    deep true hq h (suc m) l k = let p = in_parts low before e hq in rw (drops-next n low w before e h hq, fall-step m low w e h) (k m (omega arith))
+    deep true hq h (suc m) l k = let p = in_parts low before e hq in rw (drops_next n low w before e h hq, fall_step m low w e h) (k m (omega arith))
 
-pub fell-fall : (low : List ℕ) (w h x : ℕ) → fell low w h ≡ Some x → x ≡ fall (length low) low w h
+pub fell_fall : (low : List ℕ) (w h x : ℕ) → fell low w h ≡ Some x → x ≡ fall (length low) low w h
 unfolding fell
-fell-fall low w h x e = sym (subst (λ r. Same r (fall (length low) low w h)) e (drops-fall (suc (length low)) low w (length low) h (length low) (omega arith)))
+fell_fall low w h x e = sym (subst (λ r. Same r (fall (length low) low w h)) e (drops_fall (suc (length low)) low w (length low) h (length low) (omega arith)))
 
 -- a fall reads nothing below w
-order-agree : (low new : List ℕ) (w before e : ℕ) → w ≤ e → length low ≡ length new → ((a : ℕ) → w ≤ a → at low a ≡ at new a) → ordered low before e ≡ ordered new before e
+order_agree : (low new : List ℕ) (w before e : ℕ) → w ≤ e → length low ≡ length new → ((a : ℕ) → w ≤ a → at low a ≡ at new a) → ordered low before e ≡ ordered new before e
 unfolding first_at
-order-agree low new w before e h l f = let c = f (e + 2) (omega arith) in cc
+order_agree low new w before e h l f = let c = f (e + 2) (omega arith) in cc
 
-pub drops-agree : (n : ℕ) (low new : List ℕ) (w before e : ℕ) → length low ≡ length new → ((a : ℕ) → w ≤ a → at low a ≡ at new a) → drops n low w before e ≡ drops n new w before e
-drops-agree zero low new w before e l f = unfold drops in refl
-drops-agree (suc n) low new w before e l f = elim (cases_lt e w) [
-  | inl h ↦ drops-end n low w before e h ∙ sym (drops-end n new w before e h)
-  | inr h ↦ deep h (ordered low before e) refl (drops-agree n low new w e (cell_at new e) l f)
+pub drops_agree : (n : ℕ) (low new : List ℕ) (w before e : ℕ) → length low ≡ length new → ((a : ℕ) → w ≤ a → at low a ≡ at new a) → drops n low w before e ≡ drops n new w before e
+drops_agree zero low new w before e l f = unfold drops in refl
+drops_agree (suc n) low new w before e l f = elim (cases_lt e w) [
+  | inl h ↦ drops_end n low w before e h ∙ sym (drops_end n new w before e h)
+  | inr h ↦ deep h (ordered low before e) refl (drops_agree n low new w e (cell_at new e) l f)
 ]
   where
     deep : w ≤ e → (q : Bool) → ordered low before e ≡ q → drops n low w e (cell_at new e) ≡ drops n new w e (cell_at new e) → drops (suc n) low w before e ≡ drops (suc n) new w before e
-    deep h false q k = drops_broken n low w before e h q ∙ sym (drops_broken n new w before e h (sym (order-agree low new w before e h l f) ∙ q))
-    deep h true q k = drops-next n low w before e h q ∙ (ap (drops n low w e) (cell_of_bytes low new e (f e h) (f (e + 1) (omega arith)))
-        ∙ (k ∙ sym (drops-next n new w before e h (sym (order-agree low new w before e h l f) ∙ q))))
+    deep h false q k = drops_broken n low w before e h q ∙ sym (drops_broken n new w before e h (sym (order_agree low new w before e h l f) ∙ q))
+    deep h true q k = drops_next n low w before e h q ∙ (ap (drops n low w e) (cell_of_bytes low new e (f e h) (f (e + 1) (omega arith)))
+        ∙ (k ∙ sym (drops_next n new w before e h (sym (order_agree low new w before e h l f) ∙ q))))
 
-pub fell-agree : (low new : List ℕ) (w h : ℕ) → length low ≡ length new → ((a : ℕ) → w ≤ a → at low a ≡ at new a) → fell low w h ≡ fell new w h
+pub fell_agree : (low new : List ℕ) (w h : ℕ) → length low ≡ length new → ((a : ℕ) → w ≤ a → at low a ≡ at new a) → fell low w h ≡ fell new w h
 unfolding fell
-fell-agree low new w h l f = drops-agree (suc (length low)) low new w (length low) h l f ∙ ap (λ n. drops (suc n) new w n h) l
+fell_agree low new w h l f = drops_agree (suc (length low)) low new w (length low) h l f ∙ ap (λ n. drops (suc n) new w n h) l
 
 -- what the questions say of a vocabulary's heads
 lands_ok : (low : List ℕ) (r : Option ℕ) → lands low r ≡ true → is_some r ≡ true
@@ -102,9 +102,9 @@ pub falls_is : (low : List ℕ) (w a h : ℕ) (r : Option ℕ) → h ≡ cell_at
 unfolding falls_at
 falls_is low w a h r q e = ap (lands low) (e ∙ ap (fell low w) q)
 
-pub threads-fall : (low : List ℕ) (w v : ℕ) → threads low w v ≡ true → Falls low w v 4
+pub threads_fall : (low : List ℕ) (w v : ℕ) → threads low w v ≡ true → Falls low w v 4
 unfolding threads
-threads-fall low w v h =
+threads_fall low w v h =
     let p = and_parts _ _ h in
     let q = and_parts _ _ p.1 in
     let r = and_parts _ _ q.1 in
@@ -121,7 +121,7 @@ threads-fall low w v h =
 pub falls_agree : (low new : List ℕ) (w v k : ℕ) → length low ≡ length new → ((a : ℕ) → w ≤ a → at low a ≡ at new a) → ((a : ℕ) → v ≤ a → a < v + 2 * k → at low a ≡ at new a) → Falls low w v k → Falls new w v k
 falls_agree low new w v k l f g h i b =
     let e = cell_of_bytes low new (v + 2 * i) (g (v + 2 * i) (omega arith) (omega arith)) (g (v + 2 * i + 1) (omega arith) (omega arith)) in
-    let t = fell-agree low new w (cell_at new (v + 2 * i)) l f in
+    let t = fell_agree low new w (cell_at new (v + 2 * i)) l f in
     ap is_some (sym (ap (fell low w) e ∙ t)) ∙ h i b
 
 -- and after the uppermost of them has fallen
@@ -133,7 +133,7 @@ falls_set low w v k x l h = falls_agree low (set_cell low (v + 2 * k) x) w v k (
 
 -- a head moved as the code moves it
 pub lowered : (low : List ℕ) (w a h x : ℕ) → h ≡ cell_at low a → fell low w h ≡ Some x → x ≡ fall (length low) low w (cell_at low a)
-lowered low w a h x q e = fell-fall low w (cell_at low a) x (ap (fell low w) (sym q) ∙ e)
+lowered low w a h x q e = fell_fall low w (cell_at low a) x (ap (fell low w) (sym q) ∙ e)
 
 pub trim_step : (w v k : ℕ) (low : List ℕ) → 0 < k → trim_voc w v k low ≡ trim_voc w v (k - 1) (set_cell low (v + 2 * (k - 1)) (fall (length low) low w (cell_at low (v + 2 * (k - 1)))))
 unfolding trim_voc

@@ -4,7 +4,7 @@ use Rattle.std.proofs.lemmas.Bool.Decides.{nat_tests}
 use Rattle.std.proofs.lemmas.Bool.{and_parts, or_cases, leb-true, ltb-true, le-leb, lt-leb, cond-true, cond-false}
 use Rattle.image.specs.Cells.{cell_at}
 use Rattle.image.specs.Views.{low_of}
-use Rattle.image.proofs.Laws.{length-low}
+use Rattle.image.proofs.Laws.{length_low}
 use Rattle.entries.specs.Entries.{first_at, name_length, body_of}
 use Rattle.dictionary.specs.Dict.{Dict}
 use Rattle.dictionary.specs.Trim.{ordered, chain, left, link_of, trim_vocs, youngest, chained, can_forget, forgotten}
@@ -19,7 +19,7 @@ use Rattle.fault.specs.declared.Place.{Place}
 use Rattle.fault.specs.declared.Reason.TheVariants.{BadToken, BelowFence}
 use Rattle.fault.specs.Numbers.{fault_of}
 use Rattle.trimming.proofs.CellLaws.{in_parts}
-use Rattle.trimming.proofs.ChainLaws.{kept-chain}
+use Rattle.trimming.proofs.ChainLaws.{kept_chain}
 
 pub record Trims (w dp : ℕ) (D : Dict) : Type 0 where
   pub whole : w + 7 + name_length D.low w ≤ dp
@@ -55,19 +55,19 @@ pub trim_makes : (w dp : ℕ) (D : Dict) (low : List ℕ) (here first newest con
     → built low here first newest context D.current 0 ≡ forgotten w D
 unfolding forgotten
 trim_makes w dp D low here first newest context l k a b c d e =
-    let s = kept-chain D.low w dp first dp _ (omega arith) k in
+    let s = kept_chain D.low w dp first dp _ (omega arith) k in
     let n : left w (chain (length D.low) D.low D.voc_link) ≡ left w (chain dp D.low D.voc_link) = ap (λ j. left w (chain j D.low D.voc_link)) l in
     cc
 
 pub facts : (self : Dictionary) (image : List ℕ) (w : ℕ) → length image ≡ 65536 → can_forget w (dict_of self image) ≡ true → Trims w self.ends.dp (dict_of self image)
-facts self image w l h = trims w self.ends.dp (dict_of self image) (length-low self.ends.dp image (omega arith) (omega arith)) h
+facts self image w l h = trims w self.ends.dp (dict_of self image) (length_low self.ends.dp image (omega arith) (omega arith)) h
 
 pub still : (w context r : ℕ) → r ≡ cond (ltb w context) 270 context → 282 ≤ w → 270 ≤ context → (w < context) ⊎ (context + 12 ≤ w) → (270 ≤ r) × (r + 10 ≤ w - 2)
 still w context r e h l (inl k) = grind (arith, nat_tests)
 still w context r e h l (inr k) = grind (arith, nat_tests)
 
 pub kept_now : (low : List ℕ) (w dp k : ℕ) (vs : List ℕ) → Kept low w dp k vs → Kept low w dp k (chain dp low k)
-kept_now low w dp k vs h = subst (Kept low w dp k) (sym (kept-chain low w dp k dp vs (omega arith) h)) h
+kept_now low w dp k vs h = subst (Kept low w dp k) (sym (kept_chain low w dp k dp vs (omega arith) h)) h
 
 pub cut_to : (k n : ℕ) (image final : List ℕ) → 256 ≤ k → k ≤ n → n ≤ length image → low_of n image ≡ final → low_of k image ≡ take k final
 cut_to k n image final b h l e = low_cut k n image b h l ∙ ap (take k) e

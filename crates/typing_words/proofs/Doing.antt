@@ -6,7 +6,7 @@ use Rattle.store.specs.Meaning.{Meaning}
 use Rattle.stacks.specs.Stack.{stack_of}
 use Rattle.image.specs.Cells.{at, cell_at}
 use Rattle.image.specs.Views.{low_of}
-use Rattle.image.proofs.Laws.{cell-high, get_or-low, length-low}
+use Rattle.image.proofs.Laws.{cell_high, get_or_low, length_low}
 use Rattle.numbers.specs.Text.{is_base, signed_text, unsigned_text}
 use Rattle.definition.specs.declared.registers.Mark.{Mark}
 use Rattle.definition.specs.declared.ranged.Registers.{Registers}
@@ -90,7 +90,7 @@ top r c k = get_or (stack_of (deep r) c) k 0
 
 module _ (r : Registers) (i c : List ℕ) (li : length i ≡ 65536) (lc : length c ≡ 128) where
   base-is : (t : List ℕ) (k : List Mark) (s : Meaning) → base (seen r i c t k s) ≡ cell_at i 32768
-  base-is t k s = cell-high r.shared.ends.here i 32768 (omega arith) (omega (arith, r.space))
+  base-is t k s = cell_high r.shared.ends.here i 32768 (omega arith) (omega (arith, r.space))
 
   pub number_short : (v : ℕ) (text : ℕ → ℕ → List ℕ) → TypesNumber v text → deep r < 1 → Comes v r i c (refused StackUnderflow)
   number_short v text z h = λ again a t k s. z.short again a (seen r i c t k s) (lacks_cells r i c t k s lc 1 h)
@@ -98,8 +98,8 @@ module _ (r : Registers) (i c : List ℕ) (li : length i ≡ 65536) (lc : length
   pub number_bad : (v : ℕ) (text : ℕ → ℕ → List ℕ) → TypesNumber v text → 1 ≤ deep r → is_base (cell_at i 32768) ≡ false → Comes v r i c (refused BadBase)
   number_bad v text z h p = λ again a t k s. z.bad again a (seen r i c t k s) (has_cells_lem r i c t k s lc 1 h) (ap is_base (base-is t k s) ∙ p)
 
-  pub number-typed : (v : ℕ) (text : ℕ → ℕ → List ℕ) (b x : ℕ) → TypesNumber v text → 1 ≤ deep r → b ≡ cell_at i 32768 → is_base b ≡ true → x ≡ top r c 0 → Comes v r i c (λ m. typing (text b x ++ (32 ∷ [])) (popped 1 m))
-  number-typed v text b x z h p q y = λ again a t k s.
+  pub number_typed : (v : ℕ) (text : ℕ → ℕ → List ℕ) (b x : ℕ) → TypesNumber v text → 1 ≤ deep r → b ≡ cell_at i 32768 → is_base b ≡ true → x ≡ top r c 0 → Comes v r i c (λ m. typing (text b x ++ (32 ∷ [])) (popped 1 m))
+  number_typed v text b x z h p q y = λ again a t k s.
       let m = seen r i c t k s in
       let e : base m ≡ b = base-is t k s ∙ sym p in
       z.typed again a m (has_cells_lem r i c t k s lc 1 h) (ap is_base e ∙ q)
@@ -145,26 +145,26 @@ module _ (r : Registers) (i c : List ℕ) (li : length i ≡ 65536) (lc : length
       spaces_acts again a m ∙ rw (has_cells_lem r i c t k s lc 1 h) (ap (λ y. typing (replicate y 32) (popped 1 m)) e)
 
 -- (.")
-text-acts : (again : ℕ → Machine → Asked After) (a : Argument) (m : Machine) → acts 105 again a m ≡ do_inline Kernel.typeText m
+text_acts : (again : ℕ → Machine → Asked After) (a : Argument) (m : Machine) → acts 105 again a m ≡ do_inline Kernel.typeText m
 unfolding perform
-text-acts again a m = refl
+text_acts again a m = refl
 
-text-none : (m : Machine) → in_dictionary (ip m) 1 m ≡ false → do_inline Kernel.typeText m ≡ refused BadToken m
-text-none m h = rw h
+text_none : (m : Machine) → in_dictionary (ip m) 1 m ≡ false → do_inline Kernel.typeText m ≡ refused BadToken m
+text_none m h = rw h
 
 text_cut : (m : Machine) → in_dictionary (ip m) 1 m ≡ true → in_dictionary (ip m) (at m.low (ip m) + 1) m ≡ false → do_inline Kernel.typeText m ≡ refused BadToken m
 text_cut m h k = rw (h, k)
 
-text-typed : (m : Machine) → in_dictionary (ip m) 1 m ≡ true → in_dictionary (ip m) (at m.low (ip m) + 1) m ≡ true → do_inline Kernel.typeText m ≡ typing (take (at m.low (ip m)) (drop (ip m + 1) m.low)) (with_ip (ip m + at m.low (ip m) + 1) m)
-text-typed m h k = rw (h, k)
+text_typed : (m : Machine) → in_dictionary (ip m) 1 m ≡ true → in_dictionary (ip m) (at m.low (ip m) + 1) m ≡ true → do_inline Kernel.typeText m ≡ typing (take (at m.low (ip m)) (drop (ip m + 1) m.low)) (with_ip (ip m + at m.low (ip m) + 1) m)
+text_typed m h k = rw (h, k)
 
 either : (b : Bool) → (b ≡ true) ⊎ (b ≡ false)
 either true = inl refl
 either false = inr refl
 
 -- what is inside, with more behind it
-inside-within : (a n d : ℕ) → inside a n d ≡ true → (256 ≤ a) × (a + n ≤ d)
-inside-within a n d h = (grind (arith, nat_tests), grind (arith, nat_tests))
+inside_within : (a n d : ℕ) → inside a n d ≡ true → (256 ≤ a) × (a + n ≤ d)
+inside_within a n d h = (grind (arith, nat_tests), grind (arith, nat_tests))
 
 inside_is : (a n d : ℕ) → 256 ≤ a → a + n ≤ d → inside a n d ≡ true
 inside_is a n d h k = grind (arith, nat_tests)
@@ -177,33 +177,33 @@ module _ (r : Registers) (i c : List ℕ) (li : length i ≡ 65536) where
   end = r.shared.ends.dp
 
   dictionary-is : (t : List ℕ) (k : List Mark) (s : Meaning) (n : ℕ) (b : Bool) → inside place n end ≡ b → in_dictionary place n (seen r i c t k s) ≡ b
-  dictionary-is t k s n b p = ap (λ d. leb 256 place && leb (place + n) d) (length-low end i (dp_bottom r) (omega (arith, r.top))) ∙ p
+  dictionary-is t k s n b p = ap (λ d. leb 256 place && leb (place + n) d) (length_low end i (dp_bottom r) (omega (arith, r.top))) ∙ p
 
   count-is : inside place 1 end ≡ true → at (low_of end i) place ≡ get_or i place 0
   count-is p =
-      let h = inside-within place 1 end p in
-      get_or-low end i place h.0 (omega (arith, h.1))
+      let h = inside_within place 1 end p in
+      get_or_low end i place h.0 (omega (arith, h.1))
 
   pub text_bad : inside place (get_or i place 0 + 1) end ≡ false → Comes 105 r i c (refused BadToken)
-  text_bad p = λ again a t k s. text-acts again a (seen r i c t k s) ∙ by t k s (either (inside place 1 end))
+  text_bad p = λ again a t k s. text_acts again a (seen r i c t k s) ∙ by t k s (either (inside place 1 end))
     where
       by : (t : List ℕ) (k : List Mark) (s : Meaning) → (inside place 1 end ≡ true) ⊎ (inside place 1 end ≡ false) → do_inline Kernel.typeText (seen r i c t k s) ≡ refused BadToken (seen r i c t k s)
       by t k s (inl h) = text_cut (seen r i c t k s) (dictionary-is t k s 1 true h) (dictionary-is t k s (at (low_of end i) place + 1) false (ap (λ y. inside place (y + 1) end) (count-is h) ∙ p))
-      by t k s (inr h) = text-none (seen r i c t k s) (dictionary-is t k s 1 false h)
+      by t k s (inr h) = text_none (seen r i c t k s) (dictionary-is t k s 1 false h)
 
-  pub text-fits : (n : ℕ) → n ≡ get_or i place 0 → inside place (n + 1) end ≡ true → Comes 105 r i c (λ m. typing (take n (drop (place + 1) i)) (with_ip (place + n + 1) m))
-  text-fits n e p =
-      let h = inside-within place (n + 1) end p in
+  pub text_fits : (n : ℕ) → n ≡ get_or i place 0 → inside place (n + 1) end ≡ true → Comes 105 r i c (λ m. typing (take n (drop (place + 1) i)) (with_ip (place + n + 1) m))
+  text_fits n e p =
+      let h = inside_within place (n + 1) end p in
       let q = inside_is place 1 end h.0 (omega (arith, h.1)) in
       let f : at (low_of end i) place ≡ n = count-is q ∙ sym e in
       let w : take n (drop (place + 1) (low_of end i)) ≡ take n (drop (place + 1) i) = low_part end (place + 1) n i (omega (arith, h.0)) (omega (arith, h.1)) in
       λ again a t k s.
       let m = seen r i c t k s in
-      text-acts again a m
-      ∙ text-typed m (dictionary-is t k s 1 true q) (dictionary-is t k s (at (low_of end i) place + 1) true (ap (λ y. inside place (y + 1) end) f ∙ p))
+      text_acts again a m
+      ∙ text_typed m (dictionary-is t k s 1 true q) (dictionary-is t k s (at (low_of end i) place + 1) true (ap (λ y. inside place (y + 1) end) f ∙ p))
       ∙ ap (λ y. typing (take y (drop (place + 1) (low_of end i))) (with_ip (place + y + 1) m)) f
       ∙ ap (λ (y : List ℕ). typing y (with_ip (place + n + 1) m)) w
 
 -- IP moved
-pub pointer-view : (r r' : Registers) (i c : List ℕ) (a : ℕ) → r'.shared ≡ r.shared → r'.seat ≡ with_pointer a r.seat → (t : List ℕ) (k : List Mark) (s : Meaning) → seen r' i c t k s ≡ with_ip a (seen r i c t k s)
-pointer-view r r' i c a p q t k s = ap (λ h. view_of h r'.seat (lent i c t k) s) p ∙ ap (λ h. view_of r.shared h (lent i c t k) s) q
+pub pointer_view : (r r' : Registers) (i c : List ℕ) (a : ℕ) → r'.shared ≡ r.shared → r'.seat ≡ with_pointer a r.seat → (t : List ℕ) (k : List Mark) (s : Meaning) → seen r' i c t k s ≡ with_ip a (seen r i c t k s)
+pointer_view r r' i c a p q t k s = ap (λ h. view_of h r'.seat (lent i c t k) s) p ∙ ap (λ h. view_of r.shared h (lent i c t k) s) q

@@ -15,7 +15,7 @@ use Rattle.steps.specs.declared.progress.Progress.{Progress}
 use Rattle.steps.specs.declared.progress.Progress.TheVariants.{Went, Full, Finished}
 use Rattle.steps.specs.Seats.{told_by}
 use Rattle.steps.specs.Does.{seen, acts, Grows, OnOutput}
-use Rattle.steps.proofs.Exits.{cells-view}
+use Rattle.steps.proofs.Exits.{cells_view}
 use Rattle.typing_words.specs.Output.{Types, Releases}
 
 nothing_new : (out : List ℕ) (n : ℕ) (out' : List ℕ) (n' : ℕ) → out' ≡ out → n' ≡ n → Grows out n [] out' n'
@@ -45,7 +45,7 @@ module _ (v : ℕ) (r : Registers) (i c out : List ℕ) (n : ℕ) where
 
   -- k cells go if the bytes fitted
   pub ends : (r' : Registers) (out' : List ℕ) (n' k : ℕ) (new want : List ℕ) (b : Bool) (p : Progress) → new ≡ want → Types out n new b out' n' → Releases b k r c p r' → Comes v r i c (λ m. typing want (popped k m)) → OnOutput v r i c out n (Ok p) r' out' n'
-  ends r' out' n' k new want true Went e g u h = went r' out' n' new want (popped k) e g (λ t ms s. cells-view r r' i c c t ms s _ _ u.0 u.1 u.2) h
+  ends r' out' n' k new want true Went e g u h = went r' out' n' new want (popped k) e g (λ t ms s. cells_view r r' i c c t ms s _ _ u.0 u.1 u.2) h
   ends r' out' n' k new want true Full e g u h = absurd u
   ends r' out' n' k new want true Finished e g u h = absurd u
   ends r' out' n' k new want false Went e g u h = absurd u

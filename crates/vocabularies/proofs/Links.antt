@@ -34,10 +34,10 @@ module _ (n : ℕ) (low : List ℕ) (dp before k : ℕ) where
   unfolding chain_in_order
   order-next h o = rw (ne_eqb k 0 h, chain_in_order) (rw o refl)
 
-chain-end : (m : ℕ) (low : List ℕ) (k : ℕ) → k ≡ 0 → chain m low k ≡ []
+chain_end : (m : ℕ) (low : List ℕ) (k : ℕ) → k ≡ 0 → chain m low k ≡ []
 unfolding chain
-chain-end zero low k h = refl
-chain-end (suc m) low k h = cond-true (eqb k 0) _ _ (eq-eqb k 0 h)
+chain_end zero low k h = refl
+chain_end (suc m) low k h = cond-true (eqb k 0) _ _ (eq-eqb k 0 h)
 
 chain_next : (m : ℕ) (low : List ℕ) (k : ℕ) → k ≢ 0 → chain (suc m) low k ≡ (k - 8) ∷ chain m low (cell_at low k)
 unfolding chain
@@ -89,7 +89,7 @@ or_false false = refl
 
 pub walking_end : (low : List ℕ) (dp v before k : ℕ) (found ordered on : Bool) → Walking low dp v before k found ordered on → k ≡ 0 → (ordered ≡ true) × (on ≡ found)
 walking_end low dp v before k found ordered on w h =
-    (w.asks ∙ order-end w.fuel low dp before k h, w.finds ∙ (ap (λ vs. found || member v vs) (chain-end w.steps low k h) ∙ or_false found))
+    (w.asks ∙ order-end w.fuel low dp before k h, w.finds ∙ (ap (λ vs. found || member v vs) (chain_end w.steps low k h) ∙ or_false found))
 
 pub walking_broken : (low : List ℕ) (dp v before k : ℕ) (found ordered on : Bool) → Walking low dp v before k found ordered on → k ≢ 0 → link_in_order dp before k ≡ false → ordered ≡ false
 walking_broken low dp v before k found ordered on w h o = w.asks ∙ order-broken w.fuel low dp before k h o

@@ -1,12 +1,12 @@
 use Rattle.std.proofs.Common.{◌≡◌, sym, refl, ap, ◌∙◌, arith}
 use Rattle.std.proofs.lemmas.Result.{err_from_is_err_and}
-use Rattle.image.proofs.Laws.{length-low}
+use Rattle.image.proofs.Laws.{length_low}
 use Rattle.dictionary.specs.Lent.{dict_of}
 use Rattle.vocabularies.proofs.Links.{Walking, walking_start, walking_more, walking_end, walking_broken, link_parts, link_some, link_none, link_broken, asked_broken, asked_found}
 use Rattle.vocabularies.proofs.is_on_chain.Goals as goal
 
 pub chain-init : goal.chain-init
-chain-init c = (omega arith, walking_start (dict_of c.args.d.now c.args.image.now) c.args.d.now.ends.dp c.args.vocabulary (length-low c.args.d.now.ends.dp c.args.image.now (omega arith) (omega arith)))
+chain-init c = (omega arith, walking_start (dict_of c.args.d.now c.args.image.now) c.args.d.now.ends.dp c.args.vocabulary (length_low c.args.d.now.ends.dp c.args.image.now (omega arith) (omega arith)))
 
 pub returns-in_err-k : goal.returns-in_err-k
 returns-in_err-k c =

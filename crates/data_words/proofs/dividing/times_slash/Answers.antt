@@ -2,7 +2,7 @@ use Rattle.std.proofs.Common.{sym, ◌∙◌, arith}
 use Rattle.std.proofs.lemmas.Result.{err_from_is_err_and}
 use Rattle.definition.specs.Kernel
 use Rattle.data_words.proofs.Acting.{times_slash_acts}
-use Rattle.data_words.proofs.Ends.{cells-short}
+use Rattle.data_words.proofs.Ends.{cells_short}
 use Rattle.data_words.proofs.Finishing.{scaled_not, scaled_done}
 use Rattle.data_words.proofs.dividing.times_slash.Goals as goal
 
@@ -10,7 +10,7 @@ pub returns-in_err-need : goal.returns-in_err-need
 returns-in_err-need c =
     let p = err_from_is_err_and c.from_residual.result c.from_residual.ensures.1 in
     let h = c.in_err-need.ensures in
-    rw (p.1, p.2) (cells-short 16 Kernel.scale times_slash_acts c.args.registers.now c.args.cells.now _ c.requires (omega arith) h.0 h.1)
+    rw (p.1, p.2) (cells_short 16 Kernel.scale times_slash_acts c.args.registers.now c.args.cells.now _ c.requires (omega arith) h.0 h.1)
 
 pub returns-in_err-pair : goal.returns-in_err-pair
 returns-in_err-pair c =

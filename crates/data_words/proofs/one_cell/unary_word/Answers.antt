@@ -4,7 +4,7 @@ use Rattle.definition.specs.Kernel
 use Rattle.data_words.specs.Numbers.{unary_number}
 use Rattle.data_words.specs.Tables.{of_one}
 use Rattle.data_words.proofs.Acting.{unary_acts}
-use Rattle.data_words.proofs.Ends.{cells-short}
+use Rattle.data_words.proofs.Ends.{cells_short}
 use Rattle.data_words.proofs.Finishing.{unary_done}
 use Rattle.data_words.proofs.one_cell.unary_word.Goals as goal
 
@@ -12,7 +12,7 @@ pub returns-in_err-need : goal.returns-in_err-need
 returns-in_err-need c =
     let p = err_from_is_err_and c.from_residual.result c.from_residual.ensures.1 in
     let h = c.in_err-need.ensures in
-    rw (p.1, p.2) (cells-short (unary_number c.args.word) (Kernel.one (λ x. of_one c.args.word x ∷ [])) (unary_acts c.args.word) c.args.registers.now c.args.cells.now _ c.requires (omega arith) h.0 h.1)
+    rw (p.1, p.2) (cells_short (unary_number c.args.word) (Kernel.one (λ x. of_one c.args.word x ∷ [])) (unary_acts c.args.word) c.args.registers.now c.args.cells.now _ c.requires (omega arith) h.0 h.1)
 
 pub returns : goal.returns
 returns c =

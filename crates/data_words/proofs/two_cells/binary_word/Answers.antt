@@ -4,7 +4,7 @@ use Rattle.definition.specs.Kernel
 use Rattle.data_words.specs.Numbers.{binary_number}
 use Rattle.data_words.specs.Tables.{of_two}
 use Rattle.data_words.proofs.Acting.{binary_acts}
-use Rattle.data_words.proofs.Ends.{cells-short}
+use Rattle.data_words.proofs.Ends.{cells_short}
 use Rattle.data_words.proofs.Finishing.{binary_done}
 use Rattle.data_words.proofs.two_cells.binary_word.Goals as goal
 
@@ -12,7 +12,7 @@ pub returns-in_err-need : goal.returns-in_err-need
 returns-in_err-need c =
     let p = err_from_is_err_and c.from_residual.result c.from_residual.ensures.1 in
     let h = c.in_err-need.ensures in
-    rw (p.1, p.2) (cells-short (binary_number c.args.word) (Kernel.two (λ x y. of_two c.args.word x y ∷ [])) (binary_acts c.args.word) c.args.registers.now c.args.cells.now _ c.requires (omega arith) h.0 h.1)
+    rw (p.1, p.2) (cells_short (binary_number c.args.word) (Kernel.two (λ x y. of_two c.args.word x y ∷ [])) (binary_acts c.args.word) c.args.registers.now c.args.cells.now _ c.requires (omega arith) h.0 h.1)
 
 pub returns : goal.returns
 returns c =

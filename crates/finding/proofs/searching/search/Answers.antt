@@ -1,10 +1,10 @@
-use Rattle.finding.proofs.Answering.{read_off, searched-seen, found_inside}
+use Rattle.finding.proofs.Answering.{read_off, searched_seen, found_inside}
 use Rattle.finding.proofs.searching.search.Goals as goal
 
 pub returns : goal.returns
 returns c =
     let ro = read_off c.args.registers.now c.dictionary_of-d.result c.dictionary_of-d.ensures.ends c.dictionary_of-d.ensures.names c.dictionary_of-d.ensures.order in
     record {
-      found = searched-seen c.args.registers.now c.dictionary_of-d.result c.args.image.now c.requires.0 ro c.args.name.now c.told.result c.search.result c.search.ensures c.told.ensures;
+      found = searched_seen c.args.registers.now c.dictionary_of-d.result c.args.image.now c.requires.0 ro c.args.name.now c.told.result c.search.result c.search.ensures c.told.ensures;
       inside = found_inside c.args.registers.now c.dictionary_of-d.result c.args.image.now c.requires.0 ro c.args.name.now c.told.result c.search.result c.search.ensures;
     }

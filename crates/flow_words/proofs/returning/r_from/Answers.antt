@@ -1,5 +1,5 @@
 use Rattle.std.proofs.lemmas.Result.{err_from_is_err_and}
-use Rattle.flow_words.proofs.Doing.{r_from-short, r_from_over, r_from-done}
+use Rattle.flow_words.proofs.Doing.{r_from_short, r_from_over, r_from_done}
 use Rattle.flow_words.proofs.returning.r_from.Goals as goal
 
 pub returns-in_err-room : goal.returns-in_err-room
@@ -12,9 +12,9 @@ pub returns-in_err-need_returns : goal.returns-in_err-need_returns
 returns-in_err-need_returns c =
     let p = err_from_is_err_and c.from_residual-in_err-need_returns.result c.from_residual-in_err-need_returns.ensures.1 in
     let h = c.in_err-need_returns.ensures in
-    rw (p.1, p.2) (r_from-short c.args.registers.now c.args.cells.now c.args.returns.now c.requires.0 c.requires.1 _ c.in_ok-room.ensures h.0 h.1)
+    rw (p.1, p.2) (r_from_short c.args.registers.now c.args.cells.now c.args.returns.now c.requires.0 c.requires.1 _ c.in_ok-room.ensures h.0 h.1)
 
 pub returns : goal.returns
 returns c =
-    r_from-done c.args.registers.now c.args.cells.now c.args.returns.now c.requires.0 c.requires.1 c.release_returns.new.registers c.push.new.registers c.push.new.cells c.return_cell-x.result c.in_ok-room.ensures c.in_ok-need_returns.ensures c.return_cell-x.ensures
+    r_from_done c.args.registers.now c.args.cells.now c.args.returns.now c.requires.0 c.requires.1 c.release_returns.new.registers c.push.new.registers c.push.new.cells c.return_cell-x.result c.in_ok-room.ensures c.in_ok-need_returns.ensures c.return_cell-x.ensures
     (record { shared = c.release_returns.ensures.shared; seat = c.release_returns.ensures.seat; stack = c.release_returns.ensures.stack }) (record { shared = c.push.ensures.shared; seat = c.push.ensures.seat; stack = c.push.ensures.stack })

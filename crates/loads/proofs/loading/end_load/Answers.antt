@@ -1,9 +1,9 @@
 use Rattle.std.proofs.Common.{refl}
-use Rattle.loads.proofs.Opening.{ended-none, ended-one}
+use Rattle.loads.proofs.Opening.{ended_none, ended_one}
 use Rattle.loads.proofs.loading.end_load.Goals as goal
 
 pub returns-then-registers-eq0 : goal.returns-then-registers-eq0
-returns-then-registers-eq0 c = (ended-none c.args.registers.now c.if-registers-eq0.true, refl)
+returns-then-registers-eq0 c = (ended_none c.args.registers.now c.if-registers-eq0.true, refl)
 
 pub returns : goal.returns
-returns c = ended-one c.args.registers.now c.end_one-caller.new.loads c.end_one-caller.result c.end_one-caller.ensures.stack
+returns c = ended_one c.args.registers.now c.end_one-caller.new.loads c.end_one-caller.result c.end_one-caller.ensures.stack

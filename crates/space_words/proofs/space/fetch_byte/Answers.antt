@@ -4,14 +4,14 @@ use Rattle.definition.specs.Kernel
 use Rattle.image.specs.Cells.{cell, cell_at}
 use Rattle.image.specs.Writes.{overwritten}
 use Rattle.space_words.proofs.Doing.{fetch_byte_acts}
-use Rattle.space_words.proofs.Ends.{space-short, fetch_too_far, fetch_byte_done}
+use Rattle.space_words.proofs.Ends.{space_short, fetch_too_far, fetch_byte_done}
 use Rattle.space_words.proofs.space.fetch_byte.Goals as goal
 
 pub returns-in_err-need : goal.returns-in_err-need
 returns-in_err-need c =
     let p = err_from_is_err_and c.from_residual.result c.from_residual.ensures.1 in
     let h = c.in_err-need.ensures in
-    rw (p.1, p.2) (space-short 37 (Kernel.fetches 1) fetch_byte_acts c.args.registers.now c.args.image.now c.args.cells.now _ c.requires.1 (omega arith) h.0 h.1)
+    rw (p.1, p.2) (space_short 37 (Kernel.fetches 1) fetch_byte_acts c.args.registers.now c.args.image.now c.args.cells.now _ c.requires.1 (omega arith) h.0 h.1)
 
 pub returns-in_err-reach : goal.returns-in_err-reach
 returns-in_err-reach c =

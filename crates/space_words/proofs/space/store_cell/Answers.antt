@@ -3,26 +3,26 @@ use Rattle.std.proofs.lemmas.Result.{err_from_is_err_and}
 use Rattle.definition.specs.Kernel
 use Rattle.image.specs.Cells.{cell, cell_at}
 use Rattle.image.specs.Writes.{overwritten}
-use Rattle.space_words.proofs.Doing.{store-acts}
-use Rattle.space_words.proofs.Ends.{space-short, store_too_far, store-done}
+use Rattle.space_words.proofs.Doing.{store_acts}
+use Rattle.space_words.proofs.Ends.{space_short, store_too_far, store_done}
 use Rattle.space_words.proofs.space.store_cell.Goals as goal
 
 pub returns-in_err-need : goal.returns-in_err-need
 returns-in_err-need c =
     let p = err_from_is_err_and c.from_residual.result c.from_residual.ensures.1 in
     let h = c.in_err-need.ensures in
-    record { did = rw (p.1, p.2) (space-short 35 (Kernel.stores 2) store-acts c.args.registers.now c.args.image.now c.args.cells.now _ c.requires.1 (omega arith) h.0 h.1); below = refl }
+    record { did = rw (p.1, p.2) (space_short 35 (Kernel.stores 2) store_acts c.args.registers.now c.args.image.now c.args.cells.now _ c.requires.1 (omega arith) h.0 h.1); below = refl }
 
 pub returns-in_err-reach : goal.returns-in_err-reach
 returns-in_err-reach c =
     let p = err_from_is_err_and c.from_residual-in_err-reach.result c.from_residual-in_err-reach.ensures.1 in
     let h = c.in_err-reach.ensures in
-    record { did = rw (p.1, p.2) (store_too_far c.args.registers.now c.args.image.now c.args.cells.now c.requires.0 c.requires.1 35 2 c.cell-address.result store-acts _ c.in_ok-need.ensures c.cell-address.ensures h.0 h.1); below = refl }
+    record { did = rw (p.1, p.2) (store_too_far c.args.registers.now c.args.image.now c.args.cells.now c.requires.0 c.requires.1 35 2 c.cell-address.result store_acts _ c.in_ok-need.ensures c.cell-address.ensures h.0 h.1); below = refl }
 
 pub returns : goal.returns
 returns c =
     let d =
-    store-done c.args.registers.now c.args.image.now c.args.cells.now c.requires.0 c.requires.1 c.release.new.registers c.store.new.image c.cell-address.result c.cell-x.result c.in_ok-need.ensures c.cell-address.ensures c.cell-x.ensures c.in_ok-reach.ensures.0
+    store_done c.args.registers.now c.args.image.now c.args.cells.now c.requires.0 c.requires.1 c.release.new.registers c.store.new.image c.cell-address.result c.cell-x.result c.in_ok-need.ensures c.cell-address.ensures c.cell-x.ensures c.in_ok-reach.ensures.0
     (c.store.ensures.written ∙ ap (λ y. overwritten y (cell c.cell-x.result) c.args.image.now) c.from.ensures)
     (record { shared = c.release.ensures.shared; seat = c.release.ensures.seat; stack = c.release.ensures.stack }) in
     record { did = d.0; below = d.1 }

@@ -1,7 +1,7 @@
 use Rattle.std.proofs.Common.{◌≡◌, suc, ◌+◌, ◌≤◌, length, drop, ap, ◌∙◌, arith}
 use Rattle.std.proofs.lemmas.List.{take_rest}
 use Rattle.text_card.specs.Cutting.{first_line}
-use Rattle.text_card.proofs.CutLaws.{drop-at-end, drop-line}
+use Rattle.text_card.proofs.CutLaws.{drop_at_end, drop-line}
 use Rattle.text_card.proofs.lines.behind_first.Goals as goal
 
 pub returns-then-n-text : goal.returns-then-n-text
@@ -12,4 +12,4 @@ returns-then-n-text c =
 pub returns-else-n-text : goal.returns-else-n-text
 returns-else-n-text c =
     let h : length c.args.text.now ≤ c.line_length-n.result = omega arith in
-    take_rest c.args.text.now c.line_length-n.result ∙ drop-at-end c.args.text.now c.line_length-n.result c.line_length-n.ensures.0 h
+    take_rest c.args.text.now c.line_length-n.result ∙ drop_at_end c.args.text.now c.line_length-n.result c.line_length-n.ensures.0 h

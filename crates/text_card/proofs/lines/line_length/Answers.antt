@@ -1,5 +1,5 @@
 use Rattle.std.proofs.Common.{◌<◌, ◌≤◌, length, arith}
-use Rattle.text_card.proofs.CutLaws.{line_more, line_stops, line-ends}
+use Rattle.text_card.proofs.CutLaws.{line_more, line_stops, line_ends}
 use Rattle.text_card.proofs.lines.line_length.Goals as goal
 
 pub loop-n-preserved : goal.loop-n-preserved
@@ -17,5 +17,5 @@ returns-else-text-n-ne10 c =
 pub returns-after-loop-n : goal.returns-after-loop-n
 returns-after-loop-n c =
     let h : length c.args.text.now ≤ c.loop-n.n = omega arith in
-    let m = line-ends c.args.text.now c.loop-n.n h in
+    let m = line_ends c.args.text.now c.loop-n.n h in
     (omega arith, omega arith)

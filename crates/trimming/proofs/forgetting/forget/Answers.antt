@@ -1,7 +1,7 @@
 use Rattle.std.proofs.Common.{◌≡◌, sym, refl, ap, ◌∙◌, inl, inr, arith}
 use Rattle.image.specs.Cells.{cell_at}
 use Rattle.image.specs.Views.{low_of}
-use Rattle.image.proofs.Laws.{length-low}
+use Rattle.image.proofs.Laws.{length_low}
 use Rattle.entries.specs.Entries.{first_at}
 use Rattle.dictionary.specs.Lent.{dict_of}
 use Rattle.trimming.proofs.TrimLaws.{facts, trim_makes, still, kept_now, cut_to}
@@ -49,7 +49,7 @@ returns c =
     let h = c.cell-here.ensures ∙ ap (cell_at (low_of c.args.d.now.ends.dp c.args.image.now)) c.first_parameter.ensures in
     record {
       trimmed = trim_makes c.args.w c.args.d.now.ends.dp (dict_of c.args.d.now c.args.image.now) _ _ _ _ _
-          (length-low c.args.d.now.ends.dp c.args.image.now (omega arith) (omega arith)) c.first_kept-first.ensures.kept
+          (length_low c.args.d.now.ends.dp c.args.image.now (omega arith) (omega arith)) c.first_kept-first.ensures.kept
           (cut_to _ c.args.d.now.ends.dp _ _ (omega (arith, t.current)) (omega (arith, t.whole)) (omega (arith, c.lower_vocabularies-newest.auto.image)) c.lower_vocabularies-newest.ensures.bytes)
           h c.first_kept-first.ensures.link c.lower_vocabularies-newest.ensures.newest c.still_named-d.ensures;
       rest = c.lower_vocabularies-newest.ensures.rest;

@@ -1,7 +1,7 @@
 use Rattle.std.proofs.Common.{◌≡◌, sym, refl, ap, ◌∙◌, arith}
 use Rattle.image.specs.Cells.{cell_at}
 use Rattle.image.specs.Views.{low_of}
-use Rattle.image.proofs.Laws.{length-low}
+use Rattle.image.proofs.Laws.{length_low}
 use Rattle.entries.specs.Entries.{first_at}
 use Rattle.entries.proofs.Walks.{first_above}
 use Rattle.dictionary.specs.Lent.{dict_of}
@@ -11,14 +11,14 @@ use Rattle.trimming.proofs.forgetting.trim.Goals as goal
 
 pub first_parameter-requires : goal.first_parameter-requires
 first_parameter-requires c =
-    let l = length-low c.args.d.now.ends.dp c.args.image.now (omega arith) (omega arith) in
+    let l = length_low c.args.d.now.ends.dp c.args.image.now (omega arith) (omega arith) in
     let t = asked c.args.fence c.args.w c.args.d.now.ends.dp (dict_of c.args.d.now c.args.image.now) l c.requires.1 in
     let f = first_above (low_of c.args.d.now.ends.dp c.args.image.now) c.args.w in
     (c.requires.0, (omega (arith, t.low), (omega (arith, t.whole), omega arith)))
 
 pub cell-body-requires : goal.cell-body-requires
 cell-body-requires c =
-    let l = length-low c.args.d.now.ends.dp c.args.image.now (omega arith) (omega arith) in
+    let l = length_low c.args.d.now.ends.dp c.args.image.now (omega arith) (omega arith) in
     let t = asked c.args.fence c.args.w c.args.d.now.ends.dp (dict_of c.args.d.now c.args.image.now) l c.requires.1 in
     let f = first_above (low_of c.args.d.now.ends.dp c.args.image.now) c.args.w in
     (c.requires.0, (omega (arith, t.low, c.first_parameter.ensures), omega (arith, t.whole, c.first_parameter.ensures)))
@@ -42,7 +42,7 @@ returns-then-w-fence c =
 pub forget-requires : goal.forget-requires
 forget-requires c =
     let h = c.cell-body.ensures ∙ ap (cell_at (low_of c.args.d.now.ends.dp c.args.image.now)) c.first_parameter.ensures in
-    let l = length-low c.args.d.now.ends.dp c.args.image.now (omega arith) (omega arith) in
+    let l = length_low c.args.d.now.ends.dp c.args.image.now (omega arith) (omega arith) in
     let t = asked c.args.fence c.args.w c.args.d.now.ends.dp (dict_of c.args.d.now c.args.image.now) l c.requires.1 in
     let b = data_low c.cell-body.result _ (sym c.if-not-in_data_space.ensures) in
     (c.requires.0, (t.all c.if-w-fence.false, omega (arith, h, b)))

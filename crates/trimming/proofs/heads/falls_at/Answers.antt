@@ -1,7 +1,7 @@
 use Rattle.std.proofs.Common.{◌≡◌, sym, refl, ap, ◌∙◌, arith}
 use Rattle.std.proofs.lemmas.Bool.Decides.{nat_tests}
 use Rattle.std.proofs.lemmas.Bool.{eq-eqb, ne_eqb}
-use Rattle.image.proofs.Laws.{length-low}
+use Rattle.image.proofs.Laws.{length_low}
 use Rattle.trimming.proofs.FallLaws.{falls_is}
 use Rattle.trimming.proofs.heads.falls_at.Goals as goal
 
@@ -12,7 +12,7 @@ returns-then-x-eq0 c =
 
 pub returns-else-x-eq0 : goal.returns-else-x-eq0
 returns-else-x-eq0 c =
-    let l = length-low c.args.d.now.ends.dp c.args.image.now (omega arith) (omega arith) in
+    let l = length_low c.args.d.now.ends.dp c.args.image.now (omega arith) (omega arith) in
     let h = falls_is _ c.args.w c.args.a c.cell.result _ c.cell.ensures c.in-Some.ensures in
     grind (arith, nat_tests)
 

@@ -4,7 +4,7 @@ use Rattle.fault.specs.declared.Reason.TheVariants.{BadToken}
 use Rattle.definition.specs.Machine.{with_ip}
 use Rattle.typing_words.proofs.Parts.{part_is}
 use Rattle.typing_words.proofs.Ends.{refuses, went, full}
-use Rattle.typing_words.proofs.Doing.{text_bad, text-fits, pointer-view}
+use Rattle.typing_words.proofs.Doing.{text_bad, text_fits, pointer_view}
 use Rattle.typing_words.proofs.typing.type_text.Goals as goal
 
 pub returns-in_err-n : goal.returns-in_err-n
@@ -16,10 +16,10 @@ returns-in_err-n c =
 pub returns-then-not-type_bytes : goal.returns-then-not-type_bytes
 returns-then-not-type_bytes c =
     full 105 c.args.registers.now c.args.image.now c.args.cells.now c.args.out.now c.args.typed.now c.args.registers.now c.type_bytes.new.out c.type_bytes.new.typed (take (((c.from-from.result + 1) + c.from.result) - (c.from-from.result + 1)) (drop (c.from-from.result + 1) c.args.image.now)) (take c.in_ok-n.n (drop (c.args.registers.now.seat.flow.ip + 1) c.args.image.now)) (with_ip (c.args.registers.now.seat.flow.ip + c.in_ok-n.n + 1))
-    (part_is c.args.image.now (c.from-from.result + 1) c.from.result (c.args.registers.now.seat.flow.ip + 1) c.in_ok-n.n (ap (λ y. y + 1) c.from-from.ensures) c.from.ensures) c.if-not-type_bytes.ensures refl (text-fits c.args.registers.now c.args.image.now c.args.cells.now c.requires.0 c.in_ok-n.n c.in_ok-n.ensures.0 c.in_ok-n.ensures.1)
+    (part_is c.args.image.now (c.from-from.result + 1) c.from.result (c.args.registers.now.seat.flow.ip + 1) c.in_ok-n.n (ap (λ y. y + 1) c.from-from.ensures) c.from.ensures) c.if-not-type_bytes.ensures refl (text_fits c.args.registers.now c.args.image.now c.args.cells.now c.requires.0 c.in_ok-n.n c.in_ok-n.ensures.0 c.in_ok-n.ensures.1)
 
 pub returns : goal.returns
 returns c =
     went 105 c.args.registers.now c.args.image.now c.args.cells.now c.args.out.now c.args.typed.now c.skip_text.new.registers c.type_bytes.new.out c.type_bytes.new.typed (take (((c.from-from.result + 1) + c.from.result) - (c.from-from.result + 1)) (drop (c.from-from.result + 1) c.args.image.now)) (take c.in_ok-n.n (drop (c.args.registers.now.seat.flow.ip + 1) c.args.image.now)) (with_ip (c.args.registers.now.seat.flow.ip + c.in_ok-n.n + 1))
     (part_is c.args.image.now (c.from-from.result + 1) c.from.result (c.args.registers.now.seat.flow.ip + 1) c.in_ok-n.n (ap (λ y. y + 1) c.from-from.ensures) c.from.ensures) c.if-not-type_bytes.ensures
-    (pointer-view c.args.registers.now c.skip_text.new.registers c.args.image.now c.args.cells.now (c.args.registers.now.seat.flow.ip + c.in_ok-n.n + 1) c.skip_text.ensures.shared c.skip_text.ensures.seat) (text-fits c.args.registers.now c.args.image.now c.args.cells.now c.requires.0 c.in_ok-n.n c.in_ok-n.ensures.0 c.in_ok-n.ensures.1)
+    (pointer_view c.args.registers.now c.skip_text.new.registers c.args.image.now c.args.cells.now (c.args.registers.now.seat.flow.ip + c.in_ok-n.n + 1) c.skip_text.ensures.shared c.skip_text.ensures.seat) (text_fits c.args.registers.now c.args.image.now c.args.cells.now c.requires.0 c.in_ok-n.n c.in_ok-n.ensures.0 c.in_ok-n.ensures.1)

@@ -1,9 +1,9 @@
 use Rattle.definition.proofs.Faults.{fault_in_run}
 use Rattle.definition.proofs.Keeping.{fault_keeps}
-use Rattle.definition.proofs.Leaving.{cleared-view, settled_in}
+use Rattle.definition.proofs.Leaving.{cleared_view, settled_in}
 use Rattle.definition.proofs.ranged.Registers.clear.Goals as goal
 
 pub returns : goal.returns
 returns c =
     let r = c.args.self.now in
-    record { view = cleared-view r.shared r.seat c.end_without.result c.at_rest-seat.result c.end_without.ensures c.at_rest-seat.ensures r.bottom (settled_in r.shared r.open); step = fault_keeps; run = fault_in_run }
+    record { view = cleared_view r.shared r.seat c.end_without.result c.at_rest-seat.result c.end_without.ensures c.at_rest-seat.ensures r.bottom (settled_in r.shared r.open); step = fault_keeps; run = fault_in_run }

@@ -1,13 +1,13 @@
 use Rattle.std.proofs.Common.{◌≡◌, length, sym, refl, ap, ◌∙◌, arith}
 use Rattle.std.proofs.lemmas.Result.{err_from_is_err_and}
-use Rattle.image.proofs.Laws.{length-low}
+use Rattle.image.proofs.Laws.{length_low}
 use Rattle.dictionary.specs.Lent.{dict_of}
 use Rattle.dictionary.proofs.Growing.{refused, accepted, outside_none}
 use Rattle.dictionary.proofs.registers.Dictionary.append_cell.Goals as goal
 
 pub returns-in_err-room : goal.returns-in_err-room
 returns-in_err-room c =
-    let l = length-low c.args.self.now.ends.dp c.args.image.now (omega arith) (omega arith) in
+    let l = length_low c.args.self.now.ends.dp c.args.image.now (omega arith) (omega arith) in
     let p = err_from_is_err_and c.from_residual.result c.from_residual.ensures.1 in
     let h = c.in_err-room.ensures in
     record {
@@ -17,7 +17,7 @@ returns-in_err-room c =
 
 pub returns : goal.returns
 returns c =
-    let l = length-low c.args.self.now.ends.dp c.args.image.now (omega arith) (omega arith) in
+    let l = length_low c.args.self.now.ends.dp c.args.image.now (omega arith) (omega arith) in
     record {
       did = accepted 2 c.args.told c.args.self.now.ends.dp (dict_of c.args.self.now c.args.image.now) _ _ l c.in_ok-room.ensures c.put_cell.ensures.made;
       rest = c.put_cell.ensures.rest;

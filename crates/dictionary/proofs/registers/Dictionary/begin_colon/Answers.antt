@@ -1,17 +1,17 @@
 use Rattle.std.proofs.Common.{◌≡◌, ◌+◌, ◌≤◌, [], length, sym, refl, ap, ◌∙◌, subst, arith}
 use Rattle.std.proofs.lemmas.Result.{err_from_is_err_and}
-use Rattle.image.proofs.Laws.{length-low}
+use Rattle.image.proofs.Laws.{length_low}
 use Rattle.entries.specs.Entries.{spelled}
 use Rattle.dictionary.specs.Lent.{dict_of}
 use Rattle.dictionary.proofs.Growing.{accepted, outside_then}
-use Rattle.dictionary.proofs.Beginning.{room_ok, still-refused, colon-made, kept_open}
+use Rattle.dictionary.proofs.Beginning.{room_ok, still_refused, colon_made, kept_open}
 use Rattle.dictionary.proofs.registers.Dictionary.begin_colon.Goals as goal
 
 pub returns-in_err-begin : goal.returns-in_err-begin
 returns-in_err-begin c =
     let p = err_from_is_err_and c.from_residual.result c.from_residual.ensures.1 in
     record {
-      did = still-refused (9 + length c.args.name.now + 0) (9 + length c.args.name.now) c.args.told (dict_of c.args.self.now c.args.image.now) _ _ (dict_of c.begin.new.self c.begin.new.image) _ p.0 c.in_err-begin.field-0.0 (omega arith) c.in_err-begin.ensures.did p.1 p.2;
+      did = still_refused (9 + length c.args.name.now + 0) (9 + length c.args.name.now) c.args.told (dict_of c.args.self.now c.args.image.now) _ _ (dict_of c.begin.new.self c.begin.new.image) _ p.0 c.in_err-begin.field-0.0 (omega arith) c.in_err-begin.ensures.did p.1 p.2;
       rest = c.begin.ensures.rest;
     }
 
@@ -38,11 +38,11 @@ invariant_of-self c =
 
 pub returns : goal.returns
 returns c =
-    let l = length-low c.args.self.now.ends.dp c.args.image.now (omega arith) (omega arith) in
+    let l = length_low c.args.self.now.ends.dp c.args.image.now (omega arith) (omega arith) in
     let D = dict_of c.args.self.now c.args.image.now in
     let g = room_ok (9 + length c.args.name.now + 0) c.args.told D _ (dict_of c.begin.new.self c.begin.new.image) c.in_ok-begin.ensures.did in
     record {
       did = accepted (9 + length c.args.name.now) c.args.told (length D.low) D _ _ refl (omega arith)
-          (colon-made D (dict_of c.begin.new.self c.begin.new.image) c.args.view (spelled c.args.name.now) _ g.0 (omega arith));
+          (colon_made D (dict_of c.begin.new.self c.begin.new.image) c.args.view (spelled c.args.name.now) _ g.0 (omega arith));
       rest = c.begin.ensures.rest;
     }
