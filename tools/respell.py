@@ -16,8 +16,8 @@ import sys
 
 WORD = re.compile(r'[^\s(){}.;,@"«»\[\]]+')
 DECLARED = re.compile(r'(?m)^(?: +(?=pub ))?(?:abbrev |unfoldable |pub )*([^\s(){}.;,@"«»]+)(?: \{[^{}\n]*\})* : ')
-BLOCK = re.compile(r"(?m)^(?:pub )?(?:data|record) .*\bwhere\n((?:[ \t]+.*\n|\n|--.*\n)*)")
-MEMBER = re.compile(r"(?m)^ +(?:pub )?([^\s(){}.;,@\"«»]+) : ")
+MEMBERS = re.compile(r"(?m)^ +(?:pub |abbrev |unfoldable )*((?:[^\s(){}.;,@\"«»]+ )+): ")
+ALIAS = re.compile(r" as ([a-z][^\s(){}.;,@\"«»]*)")
 QUIET = re.compile(r'"(?:[^"\\\n]|\\.)*"|--[^\n]*')
 QUIET_RUST = re.compile(r'"(?:[^"\\]|\\.)*"|//[^\n]*|b?\'(?:\\.|[^\'\\])\'')
 MADE_HEADS = {"c", "goal", "w", "l", "g", "need"}
@@ -88,8 +88,8 @@ def main():
             continue
         code = QUIET.sub(lambda m: " " * len(m[0]), read(path))
         names = set(DECLARED.findall(code))
-        for block in BLOCK.findall(code):
-            names |= set(MEMBER.findall(block))
+        names |= {name for row in MEMBERS.findall(code) for name in row.split()}
+        names |= {name for line in re.findall(r"(?m)^use .*$", code) for name in ALIAS.findall(line)}
         declared |= names
         if "/specs/" in path:
             defined |= names

@@ -154,6 +154,7 @@ module _ (r : Registers) (i : List ℕ) (s : Meaning) (n : ℕ) where
 
   -- the buffer's part of the image filled
   pub filled : (i' new : List ℕ) (c t : List ℕ) (k : List Mark) → length i ≡ 65536 → length new ≡ 1024 → i' ≡ overwritten 33024 new i → seen r i' c t k s ≡ stored 33024 new (seen r i c t k s)
+  unfolding overwritten high_of
   filled i' new c t k l ln e =
       let f : 33024 + length new ≤ length i = omega (arith, ln) in
       ap (λ y. seen r y c t k s) e
@@ -193,15 +194,15 @@ held_is None n = refl
 held_is (Some k) n = refl
 
 module _ (r : Registers) (i : List ℕ) (s : Meaning) (n : ℕ) where
-  is-held : (c t : List ℕ) (k : List Mark) → is_held n (seen r i c t k s) ≡ holding r.shared.buffer.held n
-  is-held c t k = held_is r.shared.buffer.held n
+  is_held_lem : (c t : List ℕ) (k : List Mark) → is_held n (seen r i c t k s) ≡ holding r.shared.buffer.held n
+  is_held_lem c t k = held_is r.shared.buffer.held n
 
   pub bring_held : holding r.shared.buffer.held n ≡ true → Brings (brought n) r i s (Ok tt) r i s
-  bring_held h c t k = brought_held (seen r i c t k s) n (is-held c t k ∙ h)
+  bring_held h c t k = brought_held (seen r i c t k s) n (is_held_lem c t k ∙ h)
 
   module _ (h : holding r.shared.buffer.held n ≡ false) where
     brings : (c t : List ℕ) (k : List Mark) → brought n (seen r i c t k s) ≡ (saved (seen r i c t k s) >>= read_from n)
-    brings c t k = brought_not (seen r i c t k s) n (is-held c t k ∙ h)
+    brings c t k = brought_not (seen r i c t k s) n (is_held_lem c t k ∙ h)
 
     pub bring_refused : (r' : Registers) (e : Fault) (s' : Meaning) → Brings saved r i s (Err e) r' i s' → Brings (brought n) r i s (Err e) r' i s'
     bring_refused r' e s' g c t k = subst (λ y. IsRefused y e (seen r' i c t k s')) (sym (brings c t k)) (refuses_on (saved (seen r i c t k s)) (read_from n) e (seen r' i c t k s') (g c t k))

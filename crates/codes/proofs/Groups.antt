@@ -32,8 +32,8 @@ module _ (num code t : ℕ) (r r' : Registers) (o : Result (Unit {0}) Fault) (p 
   coded_performs h = at_code num code t r r' (memory i c e k out n s) (memory i' c' e' k' out n s') o p q f (λ again. quiet (coded again num t) r r' i c e i' c' e' k k' s s' out n o (h again))
 
   -- by its row of the kernel table, where it asks nothing of the state
-  acts-performs : Asking num [] → ((again : ℕ → Machine → Asked After) → Did (acts num again (bare (seen r i c e k s)) (seen r i c e k s)) o (seen r' i' c' e' k' s')) → Performs code t r (memory i c e k out n s) p r' (memory i' c' e' k' out n s')
-  acts-performs a h = coded_performs (λ again. plain_did num t a again (seen r i c e k s) (seen r' i' c' e' k' s') o (h again))
+  acts_performs : Asking num [] → ((again : ℕ → Machine → Asked After) → Did (acts num again (bare (seen r i c e k s)) (seen r i c e k s)) o (seen r' i' c' e' k' s')) → Performs code t r (memory i c e k out n s) p r' (memory i' c' e' k' out n s')
+  acts_performs a h = coded_performs (λ again. plain_did num t a again (seen r i c e k s) (seen r' i' c' e' k' s') o (h again))
 
   pub does_performs : (leb 1 num && leb num 105) ≡ true → ((again : ℕ → Machine → Asked After) → Did (do_kernel again (row_of num) (seen r i c e k s)) o (seen r' i' c' e' k' s')) → Performs code t r (memory i c e k out n s) p r' (memory i' c' e' k' out n s')
   does_performs a h = coded_performs (λ again. subst (λ y. Did y o (seen r' i' c' e' k' s')) (sym (kernel_does again num t (seen r i c e k s) a)) (h again))
@@ -45,15 +45,15 @@ module _ (num code t : ℕ) (r r' : Registers) (o : Result (Unit {0}) Fault) (p 
       (did_by (other_word num t) (seen r i c e k s) (seen r' i' c' e' k' s') o h))
 
   pub blocks_performs : Asking num [] → OnBlocks num r i c s o r' i' c' s' → e' ≡ e → k' ≡ k → Performs code t r (memory i c e k out n s) p r' (memory i' c' e' k' out n s')
-  blocks_performs a h u v = acts-performs a (λ again. subst (λ y. Did (acts num again (bare (seen r i c e k s)) (seen r i c e k s)) o (seen r' i' c' y k' s')) (sym u) (subst (λ (y : List Mark). Did (acts num again (bare (seen r i c e k s)) (seen r i c e k s)) o (seen r' i' c' e y s')) (sym v) (h again (bare (seen r i c e k s)) e k)))
+  blocks_performs a h u v = acts_performs a (λ again. subst (λ y. Did (acts num again (bare (seen r i c e k s)) (seen r i c e k s)) o (seen r' i' c' y k' s')) (sym u) (subst (λ (y : List Mark). Did (acts num again (bare (seen r i c e k s)) (seen r i c e k s)) o (seen r' i' c' e y s')) (sym v) (h again (bare (seen r i c e k s)) e k)))
 
 module _ (num code t : ℕ) (r r' : Registers) (o : Result (Unit {0}) Fault) (p : Result Progress Fault) (q : code ≡ num) (f : p ≡ went_by o) (i c e : List ℕ) (k : List Mark) (out : List ℕ) (n : ℕ) (s : Meaning) where
   pub cells_performs : (c' : List ℕ) → Asking num [] → length i ≡ 65536 → OnCells num r c o r' c' → Performs code t r (memory i c e k out n s) p r' (memory i c' e k out n s)
   cells_performs c' a l h =
-      acts-performs num code t r r' o p q f i c e i c' e k k out n s s a
+      acts_performs num code t r r' o p q f i c e i c' e k k out n s s a
       (λ again. did_by (acts num again (bare (seen r i c e k s))) (seen r i c e k s) (seen r' i c' e k s) o (h again (bare (seen r i c e k s)) i e k s l))
 
   pub space_performs : (i' c' : List ℕ) → Asking num [] → OnSpace num r i c o r' i' c' → Performs code t r (memory i c e k out n s) p r' (memory i' c' e k out n s)
   space_performs i' c' a h =
-      acts-performs num code t r r' o p q f i c e i' c' e k k out n s s a
+      acts_performs num code t r r' o p q f i c e i' c' e k k out n s s a
       (λ again. did_by (acts num again (bare (seen r i c e k s))) (seen r i c e k s) (seen r' i' c' e k s) o (h again (bare (seen r i c e k s)) e k s))

@@ -76,16 +76,16 @@ plain_did code t a again m m' o h = subst (λ y. Did y o m') (sym (plain_acts co
 
 -- words that ask one thing of the state
 abbrev pub holds : Asks → Machine → Bool
-holds Kernel.hasOpen m = not (eqb m.names.opened 0)
-holds Kernel.noneOpen m = eqb m.names.opened 0
-holds Kernel.ipZero m = eqb (ip m) 0
-holds Kernel.ipSet m = not (eqb (ip m) 0)
+holds Kernel.has_open m = not (eqb m.names.opened 0)
+holds Kernel.none_open m = eqb m.names.opened 0
+holds Kernel.ip_zero m = eqb (ip m) 0
+holds Kernel.ip_set m = not (eqb (ip m) 0)
 
 abbrev pub reason_of : Asks → Reason
-reason_of Kernel.hasOpen = NoDefinition
-reason_of Kernel.noneOpen = DefinitionOpen
-reason_of Kernel.ipZero = WordRunning
-reason_of Kernel.ipSet = NoWordRunning
+reason_of Kernel.has_open = NoDefinition
+reason_of Kernel.none_open = DefinitionOpen
+reason_of Kernel.ip_zero = WordRunning
+reason_of Kernel.ip_set = NoWordRunning
 
 answer : Asked (Unit {0})
 answer = given tt
@@ -97,10 +97,10 @@ drop_unit (given u) x = refl
 
 one_asked : {A : Type 0} (q : Asks) (m : Machine) (x : Asked A) → (all_asked (q ∷ []) m >> x) ≡ (ask m (reason_of q) (holds q m) >> x)
 unfolding answer
-one_asked Kernel.hasOpen m x = drop_unit (ask m NoDefinition (not (eqb m.names.opened 0))) x
-one_asked Kernel.noneOpen m x = drop_unit (ask m DefinitionOpen (eqb m.names.opened 0)) x
-one_asked Kernel.ipZero m x = drop_unit (ask m WordRunning (eqb (ip m) 0)) x
-one_asked Kernel.ipSet m x = drop_unit (ask m NoWordRunning (not (eqb (ip m) 0))) x
+one_asked Kernel.has_open m x = drop_unit (ask m NoDefinition (not (eqb m.names.opened 0))) x
+one_asked Kernel.none_open m x = drop_unit (ask m DefinitionOpen (eqb m.names.opened 0)) x
+one_asked Kernel.ip_zero m x = drop_unit (ask m WordRunning (eqb (ip m) 0)) x
+one_asked Kernel.ip_set m x = drop_unit (ask m NoWordRunning (not (eqb (ip m) 0))) x
 
 pub asked_yes : (code t : ℕ) (q : Asks) → Asking code (q ∷ []) → (again : ℕ → Machine → Asked After) (m : Machine) → holds q m ≡ true → coded again code t m ≡ acts code again (bare m) m
 asked_yes code t q a again m h =

@@ -78,11 +78,11 @@ memory_rows MemoryWord.Fill = record { kernel = refl; takes = refl; asks = refl 
 memory_rows MemoryWord.Decimal = record { kernel = refl; takes = refl; asks = refl }
 memory_rows MemoryWord.Hex = record { kernel = refl; takes = refl; asks = refl }
 
-pub appending_rows : (w : AppendingWord) → Asking (appending_number w) (Kernel.noneOpen ∷ [])
+pub appending_rows : (w : AppendingWord) → Asking (appending_number w) (Kernel.none_open ∷ [])
 appending_rows AppendingWord.Comma = record { kernel = refl; takes = refl; asks = refl }
 appending_rows AppendingWord.CComma = record { kernel = refl; takes = refl; asks = refl }
 
-pub returns_rows : (w : ReturnsWord) → Asking (returns_number w) (Kernel.ipSet ∷ [])
+pub returns_rows : (w : ReturnsWord) → Asking (returns_number w) (Kernel.ip_set ∷ [])
 returns_rows ReturnsWord.Exit = record { kernel = refl; takes = refl; asks = refl }
 returns_rows ReturnsWord.ToR = record { kernel = refl; takes = refl; asks = refl }
 returns_rows ReturnsWord.RFrom = record { kernel = refl; takes = refl; asks = refl }
@@ -91,7 +91,7 @@ returns_rows ReturnsWord.Index = record { kernel = refl; takes = refl; asks = re
 returns_rows ReturnsWord.OuterIndex = record { kernel = refl; takes = refl; asks = refl }
 returns_rows ReturnsWord.Leave = record { kernel = refl; takes = refl; asks = refl }
 
-pub inline_rows : (w : InlineWord) → Asking (inline_number w) (Kernel.ipSet ∷ [])
+pub inline_rows : (w : InlineWord) → Asking (inline_number w) (Kernel.ip_set ∷ [])
 inline_rows InlineWord.Literal = record { kernel = refl; takes = refl; asks = refl }
 inline_rows InlineWord.Branch = record { kernel = refl; takes = refl; asks = refl }
 inline_rows InlineWord.QuestionBranch = record { kernel = refl; takes = refl; asks = refl }
@@ -104,7 +104,7 @@ block_rows BlockWord.Block = record { kernel = refl; takes = refl; asks = refl }
 block_rows BlockWord.Update = record { kernel = refl; takes = refl; asks = refl }
 block_rows BlockWord.Flush = record { kernel = refl; takes = refl; asks = refl }
 
-pub control_rows : (w : ControlWord) → Asking (control_number w) (Kernel.hasOpen ∷ [])
+pub control_rows : (w : ControlWord) → Asking (control_number w) (Kernel.has_open ∷ [])
 control_rows ControlWord.If = record { kernel = refl; takes = refl; asks = refl }
 control_rows ControlWord.Else = record { kernel = refl; takes = refl; asks = refl }
 control_rows ControlWord.Then = record { kernel = refl; takes = refl; asks = refl }
@@ -116,10 +116,10 @@ control_rows ControlWord.Do = record { kernel = refl; takes = refl; asks = refl 
 control_rows ControlWord.Loop = record { kernel = refl; takes = refl; asks = refl }
 control_rows ControlWord.PlusLoop = record { kernel = refl; takes = refl; asks = refl }
 
-pub allot_row : Asking 46 (Kernel.noneOpen ∷ [])
+pub allot_row : Asking 46 (Kernel.none_open ∷ [])
 allot_row = record { kernel = refl; takes = refl; asks = refl }
 
-pub load_row : Asking 58 (Kernel.ipZero ∷ [])
+pub load_row : Asking 58 (Kernel.ip_zero ∷ [])
 load_row = record { kernel = refl; takes = refl; asks = refl }
 
 pub body_row : Asking 61 []
@@ -128,5 +128,5 @@ body_row = record { kernel = refl; takes = refl; asks = refl }
 pub abort_row : Asking 63 []
 abort_row = record { kernel = refl; takes = refl; asks = refl }
 
-pub text_row : Asking 105 (Kernel.ipSet ∷ [])
+pub text_row : Asking 105 (Kernel.ip_set ∷ [])
 text_row = record { kernel = refl; takes = refl; asks = refl }

@@ -63,8 +63,8 @@ module _ (r r' : Registers) (c c' : List ℕ) (l : length c ≡ 128) where
       (λ i t k s. two_done (λ y z. of_two w y z ∷ []) (seen r i c t k s) (has_cells_lem r i c t k s l 2 h) ∙ ap (λ y. replaced 2 (y ∷ []) (seen r i c t k s)) (sym (u ∙ ap (λ y. of_two w y b) p ∙ ap (of_two w (top r c 1)) q)))
       e.shared e.seat e.stack
 
-  left-same : (w : LeavingWord) (d h d' h' : ℕ) → d ≡ d' → h ≡ h' → left_by w d h ≡ left_by w d' h'
-  left-same w d h d' h' p q = ap (λ y. left_by w y h) p ∙ ap (left_by w d') q
+  left_same : (w : LeavingWord) (d h d' h' : ℕ) → d ≡ d' → h ≡ h' → left_by w d h ≡ left_by w d' h'
+  left_same w d h d' h' p q = ap (λ y. left_by w y h) p ∙ ap (left_by w d') q
 
   pub leaving_done : (w : LeavingWord) (x : ℕ) (o : Result (Unit {0}) Fault) → x ≡ left_by w (deep r) r.shared.ends.here → Leaves r c x o r' c' → OnCells (leaving_number w) r c o r' c'
   leaving_done w x o p g =
@@ -72,7 +72,7 @@ module _ (r r' : Registers) (c c' : List ℕ) (l : length c ≡ 128) where
       (λ i t k s b.
       let e : length (high_of r.shared.ends.here i) ≡ r.shared.ends.here - 32768 = length_high r.shared.ends.here i (omega (arith, r.limit)) in
       let h : 32768 + length (high_of r.shared.ends.here i) ≡ r.shared.ends.here = omega (arith, r.space) in
-      ap (λ y. replaced 0 (y ∷ []) (seen r i c t k s)) (left-same w _ _ _ _ (depth_of r i c t k s l) h ∙ sym p))
+      ap (λ y. replaced 0 (y ∷ []) (seen r i c t k s)) (left_same w _ _ _ _ (depth_of r i c t k s l) h ∙ sym p))
       g
 
   pub dup_done : (x : ℕ) (o : Result (Unit {0}) Fault) → 1 ≤ deep r → x ≡ top r c 0 → Leaves r c x o r' c' → OnCells 1 r c o r' c'

@@ -118,46 +118,46 @@ module _ (r : Registers) (l : Lent) (r' : Registers) (l' : Lent) (w : Whole l) (
     byte_high : (k : ℕ) → 32768 ≤ k → k < r.shared.ends.here → get_or l.image k 0 ≡ get_or l'.image k 0
     byte_high k h₀ h = a.bytes k (omega (arith, r.limit)) (kept_high r.shared k h₀ h)
 
-    low-seen : low_of r.shared.ends.dp l.image ≡ low_of r'.shared.ends.dp l'.image
-    low-seen =
+    low_seen : low_of r.shared.ends.dp l.image ≡ low_of r'.shared.ends.dp l'.image
+    low_seen =
         low_same r.shared.ends.dp l.image l'.image (omega (arith, r.top, w.image)) (omega (arith, r.top, w'.image)) byte_low
         ∙ ap (λ (z : Shared). low_of z.ends.dp l'.image) a.shared
 
-    high-seen : high_of r.shared.ends.here l.image ≡ high_of r'.shared.ends.here l'.image
-    high-seen =
+    high_seen : high_of r.shared.ends.here l.image ≡ high_of r'.shared.ends.here l'.image
+    high_seen =
         high_same r.shared.ends.here l.image l'.image (omega (arith, r.space)) (omega (arith, r.limit, w.image)) (omega (arith, r.limit, w'.image)) byte_high
         ∙ ap (λ (z : Shared). high_of z.ends.here l'.image) a.shared
 
-    line-seen : line_of l.image ≡ line_of l'.image
-    line-seen =
+    line_seen : line_of l.image ≡ line_of l'.image
+    line_seen =
         line_same l.image l'.image (omega (arith, w.image)) (omega (arith, w'.image)) (λ k h. byte_low k (omega (arith, dp_bottom r)))
 
-    cells-seen : stack_of r.seat.depths.cells l.cells ≡ stack_of r'.seat.depths.cells l'.cells
-    cells-seen =
+    cells_seen : stack_of r.seat.depths.cells l.cells ≡ stack_of r'.seat.depths.cells l'.cells
+    cells_seen =
         stack_same 0 r.seat.depths.cells l.cells l'.cells (omega (arith, r.cells, w.cells)) (omega (arith, r.cells, w'.cells)) a.cells
         ∙ ap (λ (z : Depths). stack_of z.cells l'.cells) a.depths
 
-    returns-seen : stack_of r.seat.depths.returns l.returns ≡ stack_of r'.seat.depths.returns l'.returns
-    returns-seen =
+    returns_seen : stack_of r.seat.depths.returns l.returns ≡ stack_of r'.seat.depths.returns l'.returns
+    returns_seen =
         stack_same 0 r.seat.depths.returns l.returns l'.returns (omega (arith, r.returns, w.returns)) (omega (arith, r.returns, w'.returns)) a.returns
         ∙ ap (λ (z : Depths). stack_of z.returns l'.returns) a.depths
 
-    marks-seen : stack_of r.seat.depths.marks l.marks ≡ stack_of r'.seat.depths.marks l'.marks
-    marks-seen =
+    marks_seen : stack_of r.seat.depths.marks l.marks ≡ stack_of r'.seat.depths.marks l'.marks
+    marks_seen =
         stack_same no_mark r.seat.depths.marks l.marks l'.marks (omega (arith, r.marks, w.marks)) (omega (arith, r.marks, w'.marks)) a.marks
         ∙ ap (λ (z : Depths). stack_of z.marks l'.marks) a.depths
 
-    loads-seen : loads_of r.seat.loads ≡ loads_of r'.seat.loads
-    loads-seen =
+    loads_seen : loads_of r.seat.loads ≡ loads_of r'.seat.loads
+    loads_seen =
         stack_same line_start r.seat.loads.count (eight r.seat.loads) (eight r'.seat.loads) r.loads r.loads a.loads
         ∙ ap (λ z. stack_of z (eight r'.seat.loads)) a.open_loads
 
-    agree-seen : (s s' : Meaning) → s ≡ s' → view_of r.shared r.seat l s ≡ view_of r'.shared r'.seat l' s'
-    agree-seen s s' e = λ i. record {
-      low = low-seen i;
-      high = high-seen i;
-      stacks = record { cells = cells-seen i; returns = returns-seen i; marks = marks-seen i };
-      text = record { line = line-seen i; source = a.source i; loads = loads-seen i };
+    agree_seen : (s s' : Meaning) → s ≡ s' → view_of r.shared r.seat l s ≡ view_of r'.shared r'.seat l' s'
+    agree_seen s s' e = λ i. record {
+      low = low_seen i;
+      high = high_seen i;
+      stacks = record { cells = cells_seen i; returns = returns_seen i; marks = marks_seen i };
+      text = record { line = line_seen i; source = a.source i; loads = loads_seen i };
       names = (a.shared i).names;
       order = a.order i;
       flow = a.flow i;
@@ -180,24 +180,24 @@ module _ (r : Registers) (l : Lent) (r' : Registers) (l' : Lent) (w : Whole l) (
     heres =
         high_ends r.shared.ends.here r'.shared.ends.here l.image l'.image (omega (arith, r.space)) (omega (arith, r.limit, w.image)) (omega (arith, r'.space)) (omega (arith, r'.limit, w'.image)) highs
 
-    depth-cells : r.seat.depths.cells ≡ r'.seat.depths.cells
-    depth-cells =
+    depth_cells : r.seat.depths.cells ≡ r'.seat.depths.cells
+    depth_cells =
         stack_depths 0 r.seat.depths.cells r'.seat.depths.cells l.cells l'.cells (omega (arith, r.cells, w.cells)) (omega (arith, r'.cells, w'.cells)) (λ i. (e i).stacks.cells)
 
-    depth-returns : r.seat.depths.returns ≡ r'.seat.depths.returns
-    depth-returns =
+    depth_returns : r.seat.depths.returns ≡ r'.seat.depths.returns
+    depth_returns =
         stack_depths 0 r.seat.depths.returns r'.seat.depths.returns l.returns l'.returns (omega (arith, r.returns, w.returns)) (omega (arith, r'.returns, w'.returns)) (λ i. (e i).stacks.returns)
 
-    depth-marks : r.seat.depths.marks ≡ r'.seat.depths.marks
-    depth-marks =
+    depth_marks : r.seat.depths.marks ≡ r'.seat.depths.marks
+    depth_marks =
         stack_depths no_mark r.seat.depths.marks r'.seat.depths.marks l.marks l'.marks (omega (arith, r.marks, w.marks)) (omega (arith, r'.marks, w'.marks)) (λ i. (e i).stacks.marks)
 
     counts : r.seat.loads.count ≡ r'.seat.loads.count
     counts =
         stack_depths line_start r.seat.loads.count r'.seat.loads.count (eight r.seat.loads) (eight r'.seat.loads) r.loads r'.loads (λ i. (e i).text.loads)
 
-    byte-same : (a : ℕ) → is_free r.shared a ≡ false → get_or l.image a 0 ≡ get_or l'.image a 0
-    byte-same a f =
+    byte_same : (a : ℕ) → is_free r.shared a ≡ false → get_or l.image a 0 ≡ get_or l'.image a 0
+    byte_same a f =
         let n = not_free r.shared a f in
         elim n.0 [
           | inr above ↦ high_reads r.shared.ends.here r'.shared.ends.here l.image l'.image highs heres a above n.1
@@ -212,24 +212,24 @@ module _ (r : Registers) (l : Lent) (r' : Registers) (l' : Lent) (w : Whole l) (
               ]
         ]
 
-    seen-agree : Agree r l r' l'
-    seen-agree = record {
+    seen_agree : Agree r l r' l'
+    seen_agree = record {
       shared = λ i. record { ends = record { dp = dps i; here = heres i }; names = (e i).names; buffer = (e i).buffer };
       order = λ i. (e i).order;
       flow = λ i. (e i).flow;
-      depths = λ i. record { cells = depth-cells i; returns = depth-returns i; marks = depth-marks i };
+      depths = λ i. record { cells = depth_cells i; returns = depth_returns i; marks = depth_marks i };
       source = λ i. (e i).text.source;
       open_loads = counts;
       loads = stack_reads line_start r.seat.loads.count r'.seat.loads.count (eight r.seat.loads) (eight r'.seat.loads) (λ i. (e i).text.loads) counts;
-      bytes = λ a _ f. byte-same a f;
-      cells = stack_reads 0 r.seat.depths.cells r'.seat.depths.cells l.cells l'.cells (λ i. (e i).stacks.cells) depth-cells;
-      returns = stack_reads 0 r.seat.depths.returns r'.seat.depths.returns l.returns l'.returns (λ i. (e i).stacks.returns) depth-returns;
-      marks = stack_reads no_mark r.seat.depths.marks r'.seat.depths.marks l.marks l'.marks (λ i. (e i).stacks.marks) depth-marks;
+      bytes = λ a _ f. byte_same a f;
+      cells = stack_reads 0 r.seat.depths.cells r'.seat.depths.cells l.cells l'.cells (λ i. (e i).stacks.cells) depth_cells;
+      returns = stack_reads 0 r.seat.depths.returns r'.seat.depths.returns l.returns l'.returns (λ i. (e i).stacks.returns) depth_returns;
+      marks = stack_reads no_mark r.seat.depths.marks r'.seat.depths.marks l.marks l'.marks (λ i. (e i).stacks.marks) depth_marks;
     }
 
 pub agree_is_equal_views : AgreeIsEqualViews
 agree_is_equal_views r l s r' l' s' w w' = record {
-  seen = λ a e. agree-seen r l r' l' w w' a s s' e;
-  agree = λ e. seen-agree r l r' l' w w' s s' e;
+  seen = λ a e. agree_seen r l r' l' w w' a s s' e;
+  agree = λ e. seen_agree r l r' l' w w' s s' e;
   store = λ e i. (e i).store;
 }

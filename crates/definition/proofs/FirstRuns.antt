@@ -71,8 +71,8 @@ module _ (text : List ℕ) (from : ℕ) where
       let e : gap rest + (k - (from + gap rest)) ≡ k - from = omega arith in
       get_or-drop (gap rest) rest (k - (from + gap rest)) 0 ∙ ap (λ z. get_or rest z 0) e ∙ rest_at k (omega arith)
 
-  length-word : length word ≡ length text - (from + gap rest)
-  length-word = simp length-drop (omega arith)
+  length_word : length word ≡ length text - (from + gap rest)
+  length_word = simp length-drop (omega arith)
 
   -- with no word, the gap goes to the end
   no_word : word_length word ≡ 0 → length rest ≤ gap rest
@@ -90,8 +90,8 @@ module _ (text : List ℕ) (from : ℕ) where
     onward = omega arith;
     skipped = λ k h l. subst (λ b. b ≤ 32) (rest_at k h) (gap_skips rest (k - from) (omega arith));
     above = λ k h l. subst (λ b. 32 < b) (word_at k h) (word_above word (k - (from + gap rest)) (omega arith));
-    inside = λ h. omega (arith, word_in word, length-word);
-    ended = λ h. subst (λ b. b ≤ 32) (word_at (from + gap rest + word_length word) (omega arith)) (subst (λ z. get_or word z 0 ≤ 32) (omega arith) (word_ends word (omega (arith, length-word))));
+    inside = λ h. omega (arith, word_in word, length_word);
+    ended = λ h. subst (λ b. b ≤ 32) (word_at (from + gap rest + word_length word) (omega arith)) (subst (λ z. get_or word z 0 ≤ 32) (omega arith) (word_ends word (omega (arith, length_word))));
     none = λ e k h l. subst (λ b. b ≤ 32) (rest_at k h) (gap_skips rest (k - from) (omega (arith, no_word e, length-drop from text)));
     behind_one = λ h. omega arith;
     at_end = λ h. omega arith;

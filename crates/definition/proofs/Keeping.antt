@@ -101,82 +101,82 @@ of_argument a = a.machine
 -- the words by their groups
 
 module _ (o m : Machine) (k : Same o m) where
-  replaced-keeps : (n : ℕ) (xs : List ℕ) → Keeping o (replaced n xs m)
-  replaced-keeps n xs = search keep_ask
+  replaced_keeps : (n : ℕ) (xs : List ℕ) → Keeping o (replaced n xs m)
+  replaced_keeps n xs = search keep_ask
 
-  cells-keep : (w : Kernel.CellsWord) → Keeping o (do_cells w m)
-  cells-keep (Kernel.leaves f) = search keep_ask
-  cells-keep (Kernel.one f) = search keep_ask
-  cells-keep (Kernel.two f) = search keep_ask
-  cells-keep (Kernel.three f) = search keep_ask
-  cells-keep (Kernel.divide f) = search keep_ask
-  cells-keep Kernel.scale = search keep_ask
-  cells-keep Kernel.pick = search keep_ask
-  cells-keep Kernel.roll = search keep_ask
+  cells_keep : (w : Kernel.CellsWord) → Keeping o (do_cells w m)
+  cells_keep (Kernel.leaves f) = search keep_ask
+  cells_keep (Kernel.one f) = search keep_ask
+  cells_keep (Kernel.two f) = search keep_ask
+  cells_keep (Kernel.three f) = search keep_ask
+  cells_keep (Kernel.divide f) = search keep_ask
+  cells_keep Kernel.scale = search keep_ask
+  cells_keep Kernel.pick = search keep_ask
+  cells_keep Kernel.roll = search keep_ask
 
-  space-keep : (w : Kernel.SpaceWord) → Keeping o (do_space w m)
-  space-keep (Kernel.fetches n) = search keep_ask
-  space-keep (Kernel.stores n) = search keep_ask
-  space-keep (Kernel.appends n) = search keep_ask
-  space-keep Kernel.addTo = search keep_ask
-  space-keep Kernel.move = search keep_ask
-  space-keep Kernel.fill = search keep_ask
-  space-keep Kernel.allot = search keep_ask
-  space-keep (Kernel.set_base n) = tt
+  space_keep : (w : Kernel.SpaceWord) → Keeping o (do_space w m)
+  space_keep (Kernel.fetches n) = search keep_ask
+  space_keep (Kernel.stores n) = search keep_ask
+  space_keep (Kernel.appends n) = search keep_ask
+  space_keep Kernel.add_to = search keep_ask
+  space_keep Kernel.move = search keep_ask
+  space_keep Kernel.fill = search keep_ask
+  space_keep Kernel.allot = search keep_ask
+  space_keep (Kernel.set_base n) = tt
 
-  typing-keep : (w : Kernel.TypingWord) → Keeping o (do_typing w m)
-  typing-keep Kernel.dot = search keep_ask
-  typing-keep Kernel.uDot = search keep_ask
-  typing-keep Kernel.emit = search keep_ask
-  typing-keep Kernel.type = search keep_ask
-  typing-keep Kernel.cr = tt
-  typing-keep Kernel.spaces = search keep_ask
+  typing_keep : (w : Kernel.TypingWord) → Keeping o (do_typing w m)
+  typing_keep Kernel.dot = search keep_ask
+  typing_keep Kernel.u_dot = search keep_ask
+  typing_keep Kernel.emit = search keep_ask
+  typing_keep Kernel.type = search keep_ask
+  typing_keep Kernel.cr = tt
+  typing_keep Kernel.spaces = search keep_ask
 
-  defining-keep : (w : Kernel.DefiningWord) (name : List ℕ) (e : ℕ) → Keeping o (do_defining w name e m)
-  defining-keep Kernel.colon name e = search keep_ask
-  defining-keep Kernel.semicolon name e = search keep_ask
-  defining-keep Kernel.create name e = search keep_ask
-  defining-keep Kernel.variable name e = search keep_ask
-  defining-keep Kernel.constant name e = search keep_ask
-  defining-keep Kernel.vocabulary name e = search keep_ask
-  defining-keep Kernel.definitions name e = tt
-  defining-keep Kernel.immediate name e = tt
-  defining-keep Kernel.forget name e = search keep_ask
+  defining_keep : (w : Kernel.DefiningWord) (name : List ℕ) (e : ℕ) → Keeping o (do_defining w name e m)
+  defining_keep Kernel.colon name e = search keep_ask
+  defining_keep Kernel.semicolon name e = search keep_ask
+  defining_keep Kernel.create name e = search keep_ask
+  defining_keep Kernel.variable name e = search keep_ask
+  defining_keep Kernel.constant name e = search keep_ask
+  defining_keep Kernel.vocabulary name e = search keep_ask
+  defining_keep Kernel.definitions name e = tt
+  defining_keep Kernel.immediate name e = tt
+  defining_keep Kernel.forget name e = search keep_ask
 
-  compiling-keep : (w : Kernel.CompilingWord) (e : ℕ) (text : List ℕ) → Keeping o (do_compiling w e text m)
-  compiling-keep (Kernel.compiles b) e text = tt
-  compiling-keep Kernel.literal e text = search keep_ask
-  compiling-keep Kernel.bracketTick e text = search keep_ask
-  compiling-keep Kernel.bracketCompile e text = search keep_ask
-  compiling-keep Kernel.does e text = search keep_ask
-  compiling-keep Kernel.ifC e text = search keep_ask
-  compiling-keep Kernel.elseC e text = search keep_ask
-  compiling-keep Kernel.thenC e text = search keep_ask
-  compiling-keep Kernel.beginC e text = search keep_ask
-  compiling-keep Kernel.whileC e text = search keep_ask
-  compiling-keep Kernel.repeatC e text = search keep_ask
-  compiling-keep Kernel.untilC e text = search keep_ask
-  compiling-keep Kernel.doC e text = search keep_ask
-  compiling-keep (Kernel.loop_c n) e text = search keep_ask
-  compiling-keep Kernel.quoteC e text = search keep_ask
+  compiling_keep : (w : Kernel.CompilingWord) (e : ℕ) (text : List ℕ) → Keeping o (do_compiling w e text m)
+  compiling_keep (Kernel.compiles b) e text = tt
+  compiling_keep Kernel.literal e text = search keep_ask
+  compiling_keep Kernel.bracket_tick e text = search keep_ask
+  compiling_keep Kernel.bracket_compile e text = search keep_ask
+  compiling_keep Kernel.does e text = search keep_ask
+  compiling_keep Kernel.if_c e text = search keep_ask
+  compiling_keep Kernel.else_c e text = search keep_ask
+  compiling_keep Kernel.then_c e text = search keep_ask
+  compiling_keep Kernel.begin_c e text = search keep_ask
+  compiling_keep Kernel.while_c e text = search keep_ask
+  compiling_keep Kernel.repeat_c e text = search keep_ask
+  compiling_keep Kernel.until_c e text = search keep_ask
+  compiling_keep Kernel.do_c e text = search keep_ask
+  compiling_keep (Kernel.loop_c n) e text = search keep_ask
+  compiling_keep Kernel.quote_c e text = search keep_ask
 
-  returns-keep : (w : Kernel.ReturnsWord) → Keeping o (do_returns w m)
-  returns-keep Kernel.exit = search keep_ask
-  returns-keep Kernel.to_r = search keep_ask
-  returns-keep Kernel.fromR = search keep_ask
-  returns-keep (Kernel.copy_at n) = search keep_ask
-  returns-keep Kernel.leave = search keep_ask
+  returns_keep : (w : Kernel.ReturnsWord) → Keeping o (do_returns w m)
+  returns_keep Kernel.exit = search keep_ask
+  returns_keep Kernel.to_r = search keep_ask
+  returns_keep Kernel.from_r = search keep_ask
+  returns_keep (Kernel.copy_at n) = search keep_ask
+  returns_keep Kernel.leave = search keep_ask
 
-  inlines-keep : (w : Kernel.InlineWord) → Keeping o (do_inline w m)
-  inlines-keep Kernel.lit = search keep_ask
-  inlines-keep Kernel.branch = search keep_ask
-  inlines-keep Kernel.branchIfZero = search keep_ask
-  inlines-keep Kernel.doR = search keep_ask
-  inlines-keep Kernel.loopR = search keep_ask
-  inlines-keep Kernel.plusLoopR = search keep_ask
-  inlines-keep Kernel.semicolonCode = search keep_ask
-  inlines-keep Kernel.typeText = search keep_ask
-  inlines-keep Kernel.compile = search keep_ask
+  inlines_keep : (w : Kernel.InlineWord) → Keeping o (do_inline w m)
+  inlines_keep Kernel.lit = search keep_ask
+  inlines_keep Kernel.branch = search keep_ask
+  inlines_keep Kernel.branch_if_zero = search keep_ask
+  inlines_keep Kernel.do_r = search keep_ask
+  inlines_keep Kernel.loop_r = search keep_ask
+  inlines_keep Kernel.plus_loop_r = search keep_ask
+  inlines_keep Kernel.semicolon_code = search keep_ask
+  inlines_keep Kernel.type_text = search keep_ask
+  inlines_keep Kernel.compile = search keep_ask
 
   -- an updated buffer is written out, or a question of the store answered by a no
 
@@ -184,110 +184,110 @@ module _ (o m : Machine) (k : Same o m) where
   Written (refused why m') = Same o m'
   Written (given m') = Same o m' ⊎ Saved o m'
 
-  written-ask : (why : Reason) (b : Bool) (rest : Asked Machine) → Written rest → Written (ask m why b >> rest)
-  written-ask why true rest h = h
-  written-ask why false rest h = k
+  written_ask : (why : Reason) (b : Bool) (rest : Asked Machine) → Written rest → Written (ask m why b >> rest)
+  written_ask why true rest h = h
+  written_ask why false rest h = k
 
-  saved-with : (u : Bool) (h : Option ℕ) → m.buffer.updated ≡ u → m.buffer.held ≡ h → Written (if u then elim h [ None ↦ given m | Some n ↦ Blocks.written_to n m ] else given m)
-  saved-with false h p q = inl k
-  saved-with true None p q = inl k
-  saved-with true (Some n) p q =
+  saved_with : (u : Bool) (h : Option ℕ) → m.buffer.updated ≡ u → m.buffer.held ≡ h → Written (if u then elim h [ None ↦ given m | Some n ↦ Blocks.written_to n m ] else given m)
+  saved_with false h p q = inl k
+  saved_with true None p q = inl k
+  saved_with true (Some n) p q =
       let was : m.buffer ≡ record { held = Some n; updated = true } = λ i. record { held = q i; updated = p i } in
       let done : Written (given (with_blocks (Some n) false (written m.store n (buffer_of m)) m)) =
       inr (n, ap (λ (l : Lasting). l.buffer) (sym k) ∙ was, ap (written_out n) k) in
-      search (written-ask, done)
+      search (written_ask, done)
 
-  saved-writes : Written (saved m)
-  saved-writes = saved-with m.buffer.updated m.buffer.held refl refl
+  saved_writes : Written (saved m)
+  saved_writes = saved_with m.buffer.updated m.buffer.held refl refl
 
-  keep-written : {B : Type 0} (a : Asked Machine) (g : Machine → Asked B) → Written a → ((m' : Machine) → Same o m' ⊎ Saved o m' → Keeping o (g m')) → Keeping o (a >>= g)
-  keep-written (refused why m') g w h = inl w
-  keep-written (given m') g w h = h m' w
+  keep_written : {B : Type 0} (a : Asked Machine) (g : Machine → Asked B) → Written a → ((m' : Machine) → Same o m' ⊎ Saved o m' → Keeping o (g m')) → Keeping o (a >>= g)
+  keep_written (refused why m') g w h = inl w
+  keep_written (given m') g w h = h m' w
 
   -- the read is asked behind the write
-  read-ask : (m' : Machine) (why : Reason) (b : Bool) (rest : Asked Machine) → Same o m' ⊎ Saved o m' → Keeping o rest → Keeping o (ask m' why b >> rest)
-  read-ask m' why true rest s h = h
-  read-ask m' why false rest s h = s
+  read_ask : (m' : Machine) (why : Reason) (b : Bool) (rest : Asked Machine) → Same o m' ⊎ Saved o m' → Keeping o rest → Keeping o (ask m' why b >> rest)
+  read_ask m' why true rest s h = h
+  read_ask m' why false rest s h = s
 
   brought_keeps : (n : ℕ) → Keeping o (brought n m)
   brought_keeps n =
       keep_if o (Blocks.is_held n m) (given m) (saved m >>= Blocks.read_from n) tt
-      (keep-written (saved m) (Blocks.read_from n) saved-writes (λ m' s. read-ask m' NoBlock (ltb n m'.store.count) (given (with_blocks (Some n) false m'.store (stored 33024 (block m'.store n) m'))) s tt))
+      (keep_written (saved m) (Blocks.read_from n) saved_writes (λ m' s. read_ask m' NoBlock (ltb n m'.store.count) (given (with_blocks (Some n) false m'.store (stored 33024 (block m'.store n) m'))) s tt))
 
-  keep-quiet : {A B : Type 0} (a : Asked A) (g : A → Asked B) → Keeping o a → ((x : A) → Keeping o (g x)) → Keeping o (a >>= g)
-  keep-quiet (refused why m') g c h = c
-  keep-quiet (given x) g c h = h x
+  keep_quiet : {A B : Type 0} (a : Asked A) (g : A → Asked B) → Keeping o a → ((x : A) → Keeping o (g x)) → Keeping o (a >>= g)
+  keep_quiet (refused why m') g c h = c
+  keep_quiet (given x) g c h = h x
 
-  flush-keeps : Keeping o (do_blocks Kernel.flush m)
-  flush-keeps = keep-written (saved m) (λ m'. quietly (with_blocks None false m'.store m')) saved-writes (λ _ _. tt)
+  flush_keeps : Keeping o (do_blocks Kernel.flush m)
+  flush_keeps = keep_written (saved m) (λ m'. quietly (with_blocks None false m'.store m')) saved_writes (λ _ _. tt)
 
-  update-keeps : (h : Option ℕ) → Keeping o (elim h [ None ↦ quietly m | Some n ↦ (ask m NotWritable m.store.writable >> quietly (with_blocks (Some n) true m.store m)) ])
-  update-keeps None = tt
-  update-keeps (Some n) = search keep_ask
+  update_keeps : (h : Option ℕ) → Keeping o (elim h [ None ↦ quietly m | Some n ↦ (ask m NotWritable m.store.writable >> quietly (with_blocks (Some n) true m.store m)) ])
+  update_keeps None = tt
+  update_keeps (Some n) = search keep_ask
 
-  block-keeps : Keeping o (do_blocks Kernel.block m)
-  block-keeps =
+  block_keeps : Keeping o (do_blocks Kernel.block m)
+  block_keeps =
       keep_ask o m StackUnderflow (has_cells 1 m) (brought (nth 0 m) m >>= λ m'. quietly (pushed 33024 (popped 1 m'))) k
-      (keep-quiet (brought (nth 0 m) m) (λ m'. quietly (pushed 33024 (popped 1 m'))) (brought_keeps (nth 0 m)) (λ _. tt))
+      (keep_quiet (brought (nth 0 m) m) (λ m'. quietly (pushed 33024 (popped 1 m'))) (brought_keeps (nth 0 m)) (λ _. tt))
 
-  blocks-keep : (w : Kernel.BlocksWord) → Keeping o (do_blocks w m)
-  blocks-keep Kernel.block = block-keeps
-  blocks-keep Kernel.update = update-keeps m.buffer.held
-  blocks-keep Kernel.flush = flush-keeps
-  blocks-keep Kernel.load = search keep_ask
+  blocks_keep : (w : Kernel.BlocksWord) → Keeping o (do_blocks w m)
+  blocks_keep Kernel.block = block_keeps
+  blocks_keep Kernel.update = update_keeps m.buffer.held
+  blocks_keep Kernel.flush = flush_keeps
+  blocks_keep Kernel.load = search keep_ask
 
   -- a kernel word
 
   performs : (again : ℕ → Machine → Asked After) → ((t : ℕ) (m' : Machine) → Same o m' → Keeping o (again t m')) → (w : Action) (a : Argument) → Keeping o (perform again w a m)
   unfolding perform
-  performs again h (Kernel.cells w) a = cells-keep w
-  performs again h (Kernel.space w) a = space-keep w
-  performs again h (Kernel.typing w) a = typing-keep w
-  performs again h (Kernel.blocks w) a = blocks-keep w
-  performs again h (Kernel.defining w) a = defining-keep w a.bytes a.entry
-  performs again h (Kernel.compiling w) a = compiling-keep w a.entry a.bytes
-  performs again h (Kernel.returns w) a = returns-keep w
-  performs again h (Kernel.inlines w) a = inlines-keep w
+  performs again h (Kernel.cells w) a = cells_keep w
+  performs again h (Kernel.space w) a = space_keep w
+  performs again h (Kernel.typing w) a = typing_keep w
+  performs again h (Kernel.blocks w) a = blocks_keep w
+  performs again h (Kernel.defining w) a = defining_keep w a.bytes a.entry
+  performs again h (Kernel.compiling w) a = compiling_keep w a.entry a.bytes
+  performs again h (Kernel.returns w) a = returns_keep w
+  performs again h (Kernel.inlines w) a = inlines_keep w
   performs again h Kernel.execute a =
       keep_ask o m StackUnderflow (has_cells 1 m) (again (nth 0 m) (popped 1 m)) k (h (nth 0 m) (popped 1 m) k)
   performs again h Kernel.tick a = search keep_ask
-  performs again h Kernel.toBody a = search keep_ask
+  performs again h Kernel.to_body a = search keep_ask
   performs again h Kernel.comment a = tt
   performs again h Kernel.abort a = inl k
 
-  asked-keeps : (qs : List Asks) → Keeping o (all_asked qs m)
-  asked-keeps [] = tt
-  asked-keeps (Kernel.hasOpen ∷ qs) = search (keep_ask, asked-keeps qs)
-  asked-keeps (Kernel.noneOpen ∷ qs) = search (keep_ask, asked-keeps qs)
-  asked-keeps (Kernel.ipZero ∷ qs) = search (keep_ask, asked-keeps qs)
-  asked-keeps (Kernel.ipSet ∷ qs) = search (keep_ask, asked-keeps qs)
+  asked_keeps : (qs : List Asks) → Keeping o (all_asked qs m)
+  asked_keeps [] = tt
+  asked_keeps (Kernel.has_open ∷ qs) = search (keep_ask, asked_keeps qs)
+  asked_keeps (Kernel.none_open ∷ qs) = search (keep_ask, asked_keeps qs)
+  asked_keeps (Kernel.ip_zero ∷ qs) = search (keep_ask, asked_keeps qs)
+  asked_keeps (Kernel.ip_set ∷ qs) = search (keep_ask, asked_keeps qs)
 
   -- what a word takes
 
-  name-carries : Carrying o of_taken (take_name m)
-  name-carries = search carry_ask
+  name_carries : Carrying o of_taken (take_name m)
+  name_carries = search carry_ask
 
-  text-carries : (x : Option (List ℕ)) → Carrying o of_taken (elim x [ None ↦ refused NothingFollows m | Some bs ↦ given (record { machine = reading_on (offset m + length bs + 1) m.text.source.word m; bytes = bs }) ])
-  text-carries None = k
-  text-carries (Some bs) = k
+  text_carries : (x : Option (List ℕ)) → Carrying o of_taken (elim x [ None ↦ refused NothingFollows m | Some bs ↦ given (record { machine = reading_on (offset m + length bs + 1) m.text.source.word m; bytes = bs }) ])
+  text_carries None = k
+  text_carries (Some bs) = k
 
-  takes-carry : (t : Takes) → Carrying o of_argument (taken t m)
+  takes_carry : (t : Takes) → Carrying o of_argument (taken t m)
   unfolding taken
-  takes-carry Kernel.nothing = k
-  takes-carry Kernel.aName = carry_on o of_taken (take_name m) of_argument _ name-carries (λ t s. s)
-  takes-carry Kernel.aWord =
-      carry_on o of_taken (take_name m) of_argument _ name-carries
+  takes_carry Kernel.nothing = k
+  takes_carry Kernel.a_name = carry_on o of_taken (take_name m) of_argument _ name_carries (λ t s. s)
+  takes_carry Kernel.a_word =
+      carry_on o of_taken (take_name m) of_argument _ name_carries
       (λ t s. carry_on o (λ _. o) (ask_found t.machine (searched (dict_of m) t.bytes)) of_argument _ (found_carries o t.machine _ s)
       (λ found _. carry_on o (λ _. o) (ask_there t.machine found) of_argument _ (there_carries o t.machine found s) (λ _ _. s)))
-  takes-carry Kernel.aForgettable =
-      carry_on o of_taken (take_name m) of_argument _ name-carries
+  takes_carry Kernel.a_forgettable =
+      carry_on o of_taken (take_name m) of_argument _ name_carries
       (λ t s. carry_on o (λ _. o) (ask_found t.machine (search_in m.low m.order.current t.bytes)) of_argument _ (found_carries o t.machine _ s)
       (λ found _. carry_on o (λ _. o) (ask_there t.machine found) of_argument _ (there_carries o t.machine found s) (λ w _. search (carry_ask, s))))
-  takes-carry Kernel.toParen = carry_on o of_taken (take_to 41 1024 m) of_argument _ (text-carries _) (λ t s. s)
-  takes-carry Kernel.toQuote = carry_on o of_taken (take_to 34 255 m) of_argument _ (text-carries _) (λ t s. s)
+  takes_carry Kernel.to_paren = carry_on o of_taken (take_to 41 1024 m) of_argument _ (text_carries _) (λ t s. s)
+  takes_carry Kernel.to_quote = carry_on o of_taken (take_to 34 255 m) of_argument _ (text_carries _) (λ t s. s)
 
-  other-keeps : (code t : ℕ) → Keeping o (Words.other_word code t m)
-  other-keeps code t =
+  other_keeps : (code t : ℕ) → Keeping o (Words.other_word code t m)
+  other_keeps code t =
       keep_if o (eqb code 201) _ _ (search keep_ask)
       (keep_if o (eqb code 202) _ _ (search keep_ask)
       (keep_if o (eqb code 203) _ _ (search keep_ask)
@@ -297,8 +297,8 @@ module _ (o m : Machine) (k : Same o m) where
 kernel_keeps : (o m : Machine) → Same o m → (again : ℕ → Machine → Asked After) → ((t : ℕ) (m' : Machine) → Same o m' → Keeping o (again t m')) → (r : Row) → Keeping o (do_kernel again r m)
 unfolding do_kernel
 kernel_keeps o m k again h r =
-    keep_carried o of_argument (taken r.takes m) _ (takes-carry o m k r.takes)
-    (λ a s. keep-quiet o a.machine s (all_asked r.asks a.machine) _ (asked-keeps o a.machine s r.asks) (λ _. performs o a.machine s again h r.action a))
+    keep_carried o of_argument (taken r.takes m) _ (takes_carry o m k r.takes)
+    (λ a s. keep_quiet o a.machine s (all_asked r.asks a.machine) _ (asked_keeps o a.machine s r.asks) (λ _. performs o a.machine s again h r.action a))
 
 execute_keeps : (depth : ℕ) (o : Machine) (t : ℕ) (m : Machine) → Same o m → Keeping o (execute_within depth t m)
 unfolding execute_within
@@ -308,7 +308,7 @@ execute_keeps (suc depth) o t m k =
     let word : Asked After = if leb 1 code && leb code 105 then do_kernel (execute_within depth) (Words.row_of code) m else Words.other_word code t m in
     keep_ask o m BadToken (in_dictionary t 2 m) word k
     (keep_if o (leb 1 code && leb code 105) (do_kernel (execute_within depth) (Words.row_of code) m) (Words.other_word code t m)
-    (kernel_keeps o m k (execute_within depth) (λ t m. execute_keeps depth o t m) (Words.row_of code)) (other-keeps o m k code t))
+    (kernel_keeps o m k (execute_within depth) (λ t m. execute_keeps depth o t m) (Words.row_of code)) (other_keeps o m k code t))
 
 executed : (o : Machine) (t : ℕ) (m : Machine) → Same o m → Keeping o (execute t m)
 unfolding execute
@@ -317,17 +317,17 @@ executed o t m k = execute_keeps (suc (length m.stacks.cells)) o t m k
 -- a step
 
 module _ (o m : Machine) (k : Same o m) where
-  acted-keeps : (compiling : Bool) (w : Step.Word) → Keeping o (Step.acted compiling w m)
-  acted-keeps false (Step.immediate t) = executed o t m k
-  acted-keeps false (Step.plain t) = executed o t m k
-  acted-keeps false (Step.number n) = search keep_ask
-  acted-keeps true (Step.immediate t) = executed o t m k
-  acted-keeps true (Step.plain t) = search keep_ask
-  acted-keeps true (Step.number n) = search keep_ask
+  acted_keeps : (compiling : Bool) (w : Step.Word) → Keeping o (Step.acted compiling w m)
+  acted_keeps false (Step.immediate t) = executed o t m k
+  acted_keeps false (Step.plain t) = executed o t m k
+  acted_keeps false (Step.number n) = search keep_ask
+  acted_keeps true (Step.immediate t) = executed o t m k
+  acted_keeps true (Step.plain t) = search keep_ask
+  acted_keeps true (Step.number n) = search keep_ask
 
-  word-carries : (bytes : List ℕ) (found : Option ℕ) → Carrying o (λ _. o) (Step.word_of bytes found m)
-  word-carries bytes (Some e) = refl
-  word-carries bytes None =
+  word_carries : (bytes : List ℕ) (found : Option ℕ) → Carrying o (λ _. o) (Step.word_of bytes found m)
+  word_carries bytes (Some e) = refl
+  word_carries bytes None =
       carry_on o (λ _. o) (ask_there m (number_in (base m) bytes)) (λ _. o) _ (there_carries o m (number_in (base m) bytes) k) (λ _ _. refl)
 
 interpreted_keeps : (o : Machine) (t : Taken) → Same o t.machine → Keeping o (Step.interpreted t)
@@ -337,7 +337,7 @@ interpreted_keeps o t k =
     ask_found m (searched (dict_of m) t.bytes) >>= λ found. Step.word_of t.bytes found m >>= λ word. Step.acted m.flow.compiling word m in
     keep_ask o m BadName (is_name t.bytes) rest k
     (keep_carried o (λ _. o) (ask_found m (searched (dict_of m) t.bytes)) _ (found_carries o m (searched (dict_of m) t.bytes) k)
-    (λ found _. keep_carried o (λ _. o) (Step.word_of t.bytes found m) _ (word-carries o m k t.bytes found) (λ word _. acted-keeps o m k m.flow.compiling word)))
+    (λ found _. keep_carried o (λ _. o) (Step.word_of t.bytes found m) _ (word_carries o m k t.bytes found) (λ word _. acted_keeps o m k m.flow.compiling word)))
 
 abbrev Failing : Machine → Outcome → Type 0
 Failing o (Step.went a) = Unit {0}
@@ -361,7 +361,7 @@ unfolding step
 step_fails m =
     failing_if m (eqb (ip m) 0) (Step.from_text m) (Step.outcome (Step.from_tokens m))
     (failing_if m (Step.needs_block m) _ _
-    (failing m (Step.bringing m) (keep-quiet m m refl (brought (blk m) m) quietly (brought_keeps m m refl (blk m)) (λ _. tt)))
+    (failing m (Step.bringing m) (keep_quiet m m refl (brought (blk m) m) quietly (brought_keeps m m refl (blk m)) (λ _. tt)))
     (failing_if m (no_word_left m) _ _ (ended_fails m m m.text.loads) (failing m (Step.interpreted (next_word m)) (interpreted_keeps m (next_word m) refl))))
     (failing m (Step.from_tokens m) (keep_ask m m BadToken (has_inline m) (execute (inline m) (past m)) refl (executed m (inline m) (past m) refl)))
 

@@ -72,17 +72,17 @@ do_compiling (Kernel.compiles b) e text m = quietly (with_compiling b m)
 do_compiling Kernel.literal e text m = do
   ask m StackUnderflow (has_cells 1 m)
   appends (literal_of (nth 0 m)) (popped 1 m)
-do_compiling Kernel.bracketTick e text m = appends (literal_of (token_of m.low e)) m
-do_compiling Kernel.bracketCompile e text m = appends (cell (token_of m.low e)) m
+do_compiling Kernel.bracket_tick e text m = appends (literal_of (token_of m.low e)) m
+do_compiling Kernel.bracket_compile e text m = appends (cell (token_of m.low e)) m
 do_compiling Kernel.does e text m = appends (token 104) m
-do_compiling Kernel.ifC e text m = structured [] (token 100 ++ cell 0) [] (mark If (dp m + 2) ∷ []) m
-do_compiling Kernel.elseC e text m = structured (If ∷ []) (token 99 ++ cell 0) (mark_at 0 m ∷ []) (mark If (dp m + 2) ∷ []) m
-do_compiling Kernel.thenC e text m = structured (If ∷ []) [] (mark_at 0 m ∷ []) [] m
-do_compiling Kernel.beginC e text m = structured [] [] [] (mark Begin (dp m) ∷ []) m
-do_compiling Kernel.whileC e text m =
+do_compiling Kernel.if_c e text m = structured [] (token 100 ++ cell 0) [] (mark If (dp m + 2) ∷ []) m
+do_compiling Kernel.else_c e text m = structured (If ∷ []) (token 99 ++ cell 0) (mark_at 0 m ∷ []) (mark If (dp m + 2) ∷ []) m
+do_compiling Kernel.then_c e text m = structured (If ∷ []) [] (mark_at 0 m ∷ []) [] m
+do_compiling Kernel.begin_c e text m = structured [] [] [] (mark Begin (dp m) ∷ []) m
+do_compiling Kernel.while_c e text m =
     structured (Begin ∷ []) (token 100 ++ cell 0) [] (mark While (dp m + 2) ∷ mark Begin (mark_at 0 m) ∷ []) m
-do_compiling Kernel.repeatC e text m = structured (While ∷ Begin ∷ []) (token 99 ++ cell (mark_at 1 m)) (mark_at 0 m ∷ []) [] m
-do_compiling Kernel.untilC e text m = structured (Begin ∷ []) (token 100 ++ cell (mark_at 0 m)) [] [] m
-do_compiling Kernel.doC e text m = structured [] (token 101 ++ cell 0) [] (mark Do (dp m + 2) ∷ []) m
+do_compiling Kernel.repeat_c e text m = structured (While ∷ Begin ∷ []) (token 99 ++ cell (mark_at 1 m)) (mark_at 0 m ∷ []) [] m
+do_compiling Kernel.until_c e text m = structured (Begin ∷ []) (token 100 ++ cell (mark_at 0 m)) [] [] m
+do_compiling Kernel.do_c e text m = structured [] (token 101 ++ cell 0) [] (mark Do (dp m + 2) ∷ []) m
 do_compiling (Kernel.loop_c n) e text m = structured (Do ∷ []) (token n ++ cell (mark_at 0 m + 2)) (mark_at 0 m ∷ []) [] m
-do_compiling Kernel.quoteC e text m = appends (token 105 ++ (length text ∷ text)) m
+do_compiling Kernel.quote_c e text m = appends (token 105 ++ (length text ∷ text)) m

@@ -51,7 +51,7 @@ do_returns Kernel.to_r m = do
   ask m StackUnderflow (has_cells 1 m)
   ask m ReturnOverflow (has_return_room 1 m)
   quietly (pushed_returns (nth 0 m ∷ []) (popped 1 m))
-do_returns Kernel.fromR m = do
+do_returns Kernel.from_r m = do
   ask m StackOverflow (has_room 1 m)
   ask m ReturnUnderflow (has_returns 1 m)
   quietly (pushed (nth_return 0 m) (popped_returns 1 m))
@@ -72,23 +72,23 @@ do_inline Kernel.lit m = do
 do_inline Kernel.branch m = do
   ask m BadToken (has_inline m)
   quietly (go_to (inline m) m)
-do_inline Kernel.branchIfZero m = do
+do_inline Kernel.branch_if_zero m = do
   ask m StackUnderflow (has_cells 1 m)
   ask m BadToken (has_inline m)
   quietly (if nat_eq (nth 0 m) 0 then go_to (inline m) (popped 1 m) else past (popped 1 m))
-do_inline Kernel.doR m = do
+do_inline Kernel.do_r m = do
   ask m StackUnderflow (has_cells 2 m)
   ask m ReturnOverflow (has_return_room 3 m)
   ask m BadToken (has_inline m)
   quietly (past (pushed_returns (nth 0 m ∷ nth 1 m ∷ inline m ∷ []) (popped 2 m)))
-do_inline Kernel.loopR m = looped 1 m
-do_inline Kernel.plusLoopR m = ask m StackUnderflow (has_cells 1 m) >> looped (nth 0 m) (popped 1 m)
-do_inline Kernel.semicolonCode m = do
+do_inline Kernel.loop_r m = looped 1 m
+do_inline Kernel.plus_loop_r m = ask m StackUnderflow (has_cells 1 m) >> looped (nth 0 m) (popped 1 m)
+do_inline Kernel.semicolon_code m = do
   ask m ReturnUnderflow (has_returns 1 m)
   let code = cell_at m.low (token_of m.low m.names.newest)
   ask m NotCreated (nat_le (first_at m.low m.names.newest + 4) (dp m) && (code == 202 || code == 205))
   quietly (exited (changed (does_set (ip m)) m))
-do_inline Kernel.typeText m = do
+do_inline Kernel.type_text m = do
   ask m BadToken (in_dictionary (ip m) 1 m)
   let n = at m.low (ip m)
   ask m BadToken (in_dictionary (ip m) (n + 1) m)

@@ -8,11 +8,11 @@ use Rattle.numbers.specs.Division.{Divided}
 
 -- what a word takes from the text first: a name, a name that is found, a name that FORGET finds, or the text up to a `)` or a `"`
 pub data Takes : Type 0 where
-  nothing aName aWord aForgettable toParen toQuote : Takes
+  nothing a_name a_word a_forgettable to_paren to_quote : Takes
 
 -- what a word asks of the state: an open definition (8), none (9), IP 0 (10), IP not 0 (11)
 pub data Asks : Type 0 where
-  hasOpen noneOpen ipZero ipSet : Asks
+  has_open none_open ip_zero ip_set : Asks
 
 -- data cells alone: as many as the function takes (the top last) give way to those it lists (the top first)
 pub data CellsWord : Type 0 where
@@ -26,11 +26,11 @@ pub data CellsWord : Type 0 where
 -- data space; a number says how many bytes
 pub data SpaceWord : Type 0 where
   fetches stores appends : ℕ → SpaceWord
-  addTo move fill allot : SpaceWord
+  add_to move fill allot : SpaceWord
   set_base : ℕ → SpaceWord
 
 pub data TypingWord : Type 0 where
-  dot uDot emit type cr spaces : TypingWord
+  dot u_dot emit type cr spaces : TypingWord
 
 pub data BlocksWord : Type 0 where
   block update flush load : BlocksWord
@@ -41,17 +41,17 @@ pub data DefiningWord : Type 0 where
 -- what appends to the open definition, or sets the compiling flag
 pub data CompilingWord : Type 0 where
   compiles : Bool → CompilingWord
-  literal bracketTick bracketCompile does : CompilingWord
-  ifC elseC thenC beginC whileC repeatC untilC doC quoteC : CompilingWord
+  literal bracket_tick bracket_compile does : CompilingWord
+  if_c else_c then_c begin_c while_c repeat_c until_c do_c quote_c : CompilingWord
   loop_c : ℕ → CompilingWord
 
 -- what only a definition holds: on the return stack, or reading what follows
 pub data ReturnsWord : Type 0 where
-  exit to_r fromR leave : ReturnsWord
+  exit to_r from_r leave : ReturnsWord
   copy_at : ℕ → ReturnsWord
 
 pub data InlineWord : Type 0 where
-  lit branch branchIfZero doR loopR plusLoopR semicolonCode typeText compile : InlineWord
+  lit branch branch_if_zero do_r loop_r plus_loop_r semicolon_code type_text compile : InlineWord
 
 pub data Action : Type 0 where
   cells : CellsWord → Action
@@ -62,7 +62,7 @@ pub data Action : Type 0 where
   compiling : CompilingWord → Action
   returns : ReturnsWord → Action
   inlines : InlineWord → Action
-  execute tick toBody comment abort : Action
+  execute tick to_body comment abort : Action
 
 pub record Row : Type 0 where
   pub name : List ℕ
@@ -85,10 +85,10 @@ abbrev plain : String → Action → Row
 plain n a = asking n nothing [] a
 
 abbrev structure : String → Action → Row
-structure n a = at_once n nothing (hasOpen ∷ []) a
+structure n a = at_once n nothing (has_open ∷ []) a
 
 abbrev inside : String → Action → Row
-inside n a = asking n nothing (ipSet ∷ []) a
+inside n a = asking n nothing (ip_set ∷ []) a
 
 -- words on data cells alone
 abbrev leaving : String → (Machine → ℕ) → Row
@@ -149,7 +149,7 @@ abbrev pub space_rows : List Row
 space_rows =
     plain "@" (space (fetches 2)) ∷
     plain "!" (space (stores 2)) ∷
-    plain "+!" (space addTo) ∷
+    plain "+!" (space add_to) ∷
     plain "C@" (space (fetches 1)) ∷
     plain "C!" (space (stores 1)) ∷
     plain "CMOVE" (space move) ∷
@@ -159,11 +159,11 @@ space_rows =
     plain "HEX" (space (set_base 16)) ∷
     leaving "PAD" (λ m. 32784) ∷
     leaving "HERE" (λ m. here m) ∷
-    asking "ALLOT" nothing (noneOpen ∷ []) (space allot) ∷
-    asking "," nothing (noneOpen ∷ []) (space (appends 2)) ∷
-    asking "C," nothing (noneOpen ∷ []) (space (appends 1)) ∷
+    asking "ALLOT" nothing (none_open ∷ []) (space allot) ∷
+    asking "," nothing (none_open ∷ []) (space (appends 2)) ∷
+    asking "C," nothing (none_open ∷ []) (space (appends 1)) ∷
     plain "." (typing dot) ∷
-    plain "U." (typing uDot) ∷
+    plain "U." (typing u_dot) ∷
     plain "EMIT" (typing emit) ∷
     plain "TYPE" (typing type) ∷
     plain "CR" (typing cr) ∷
@@ -171,44 +171,44 @@ space_rows =
     plain "BLOCK" (blocks block) ∷
     plain "UPDATE" (blocks update) ∷
     plain "FLUSH" (blocks flush) ∷
-    asking "LOAD" nothing (ipZero ∷ []) (blocks load) ∷
+    asking "LOAD" nothing (ip_zero ∷ []) (blocks load) ∷
     []
 
 -- 59 to 90
 abbrev pub defining_rows : List Row
 defining_rows =
     plain "EXECUTE" execute ∷
-    asking "'" aWord [] tick ∷
-    plain ">BODY" toBody ∷
-    at_once "(" toParen [] comment ∷
+    asking "'" a_word [] tick ∷
+    plain ">BODY" to_body ∷
+    at_once "(" to_paren [] comment ∷
     plain "ABORT" abort ∷
-    asking ":" aName (noneOpen ∷ ipZero ∷ []) (defining colon) ∷
+    asking ":" a_name (none_open ∷ ip_zero ∷ []) (defining colon) ∷
     structure ";" (defining semicolon) ∷
-    asking "CREATE" aName (noneOpen ∷ []) (defining create) ∷
-    asking "VARIABLE" aName (noneOpen ∷ []) (defining variable) ∷
-    asking "CONSTANT" aName (noneOpen ∷ []) (defining constant) ∷
-    asking "VOCABULARY" aName (noneOpen ∷ []) (defining vocabulary) ∷
-    asking "DEFINITIONS" nothing (noneOpen ∷ []) (defining definitions) ∷
-    asking "IMMEDIATE" nothing (noneOpen ∷ []) (defining immediate) ∷
-    asking "FORGET" aForgettable (noneOpen ∷ ipZero ∷ []) (defining forget) ∷
+    asking "CREATE" a_name (none_open ∷ []) (defining create) ∷
+    asking "VARIABLE" a_name (none_open ∷ []) (defining variable) ∷
+    asking "CONSTANT" a_name (none_open ∷ []) (defining constant) ∷
+    asking "VOCABULARY" a_name (none_open ∷ []) (defining vocabulary) ∷
+    asking "DEFINITIONS" nothing (none_open ∷ []) (defining definitions) ∷
+    asking "IMMEDIATE" nothing (none_open ∷ []) (defining immediate) ∷
+    asking "FORGET" a_forgettable (none_open ∷ ip_zero ∷ []) (defining forget) ∷
     structure "[" (compiling (compiles false)) ∷
-    asking "]" nothing (hasOpen ∷ []) (compiling (compiles true)) ∷
+    asking "]" nothing (has_open ∷ []) (compiling (compiles true)) ∷
     structure "LITERAL" (compiling literal) ∷
-    at_once "[']" aWord (hasOpen ∷ []) (compiling bracketTick) ∷
-    at_once "[COMPILE]" aWord (hasOpen ∷ []) (compiling bracketCompile) ∷
-    asking "COMPILE" nothing (hasOpen ∷ ipSet ∷ []) (inlines compile) ∷
+    at_once "[']" a_word (has_open ∷ []) (compiling bracket_tick) ∷
+    at_once "[COMPILE]" a_word (has_open ∷ []) (compiling bracket_compile) ∷
+    asking "COMPILE" nothing (has_open ∷ ip_set ∷ []) (inlines compile) ∷
     structure "DOES>" (compiling does) ∷
-    structure "IF" (compiling ifC) ∷
-    structure "ELSE" (compiling elseC) ∷
-    structure "THEN" (compiling thenC) ∷
-    structure "BEGIN" (compiling beginC) ∷
-    structure "WHILE" (compiling whileC) ∷
-    structure "REPEAT" (compiling repeatC) ∷
-    structure "UNTIL" (compiling untilC) ∷
-    structure "DO" (compiling doC) ∷
+    structure "IF" (compiling if_c) ∷
+    structure "ELSE" (compiling else_c) ∷
+    structure "THEN" (compiling then_c) ∷
+    structure "BEGIN" (compiling begin_c) ∷
+    structure "WHILE" (compiling while_c) ∷
+    structure "REPEAT" (compiling repeat_c) ∷
+    structure "UNTIL" (compiling until_c) ∷
+    structure "DO" (compiling do_c) ∷
     structure "LOOP" (compiling (loop_c 102)) ∷
     structure "+LOOP" (compiling (loop_c 103)) ∷
-    at_once ".\"" toQuote (hasOpen ∷ []) (compiling quoteC) ∷
+    at_once ".\"" to_quote (has_open ∷ []) (compiling quote_c) ∷
     []
 
 -- 91 to 105
@@ -216,17 +216,17 @@ abbrev pub inside_rows : List Row
 inside_rows =
     inside "EXIT" (returns exit) ∷
     inside ">R" (returns to_r) ∷
-    inside "R>" (returns fromR) ∷
+    inside "R>" (returns from_r) ∷
     inside "R@" (returns (copy_at 0)) ∷
     inside "I" (returns (copy_at 0)) ∷
     inside "J" (returns (copy_at 3)) ∷
     inside "LEAVE" (returns leave) ∷
     inside "(LIT)" (inlines lit) ∷
     inside "BRANCH" (inlines branch) ∷
-    inside "?BRANCH" (inlines branchIfZero) ∷
-    inside "(DO)" (inlines doR) ∷
-    inside "(LOOP)" (inlines loopR) ∷
-    inside "(+LOOP)" (inlines plusLoopR) ∷
-    asking "(;CODE)" nothing (noneOpen ∷ ipSet ∷ []) (inlines semicolonCode) ∷
-    inside "(.\")" (inlines typeText) ∷
+    inside "?BRANCH" (inlines branch_if_zero) ∷
+    inside "(DO)" (inlines do_r) ∷
+    inside "(LOOP)" (inlines loop_r) ∷
+    inside "(+LOOP)" (inlines plus_loop_r) ∷
+    asking "(;CODE)" nothing (none_open ∷ ip_set ∷ []) (inlines semicolon_code) ∷
+    inside "(.\")" (inlines type_text) ∷
     []

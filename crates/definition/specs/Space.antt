@@ -58,7 +58,7 @@ do_space (Kernel.stores n) m = do
   ask m StackUnderflow (has_cells 2 m)
   ask m OutOfReach (in_reach (nth 0 m) n m)
   quietly (stored (nth 0 m) (bytes n (nth 1 m)) (popped 2 m))
-do_space Kernel.addTo m = do
+do_space Kernel.add_to m = do
   ask m StackUnderflow (has_cells 2 m)
   ask m OutOfReach (in_reach (nth 0 m) 2 m)
   quietly (stored (nth 0 m) (cell (wrap (fetched (nth 0 m) m + nth 1 m))) (popped 2 m))
@@ -96,7 +96,7 @@ count_of n = if is_negative n then 0 else n
 -- EMIT types the low seven bits
 abbrev pub do_typing : TypingWord → Machine → Asked After
 do_typing Kernel.dot m = type_number signed_text m
-do_typing Kernel.uDot m = type_number unsigned_text m
+do_typing Kernel.u_dot m = type_number unsigned_text m
 do_typing Kernel.emit m = do
   ask m StackUnderflow (has_cells 1 m)
   typing (nth 0 m % 128 ∷ []) (popped 1 m)

@@ -36,33 +36,33 @@ may_forget w m = if nat_lt w fence then true else can_forget w (dict_of m)
 -- the text questions
 unfoldable pub taken : Takes → Machine → Asked Argument
 taken Kernel.nothing m = given (record { machine = m; bytes = []; entry = 0 })
-taken Kernel.aName m = do
+taken Kernel.a_name m = do
   t ← take_name m
   given (argument t 0)
-taken Kernel.aWord m = do
+taken Kernel.a_word m = do
   t ← take_name m
   found ← ask_found t.machine (searched (dict_of m) t.bytes)
   e ← ask_there t.machine found
   given (argument t e)
-taken Kernel.aForgettable m = do
+taken Kernel.a_forgettable m = do
   t ← take_name m
   found ← ask_found t.machine (search_in m.low m.order.current t.bytes)
   w ← ask_there t.machine found
   ask t.machine BrokenLink (may_forget w m)
   given (argument t w)
-taken Kernel.toParen m = do
+taken Kernel.to_paren m = do
   t ← take_to 41 1024 m
   given (argument t 0)
-taken Kernel.toQuote m = do
+taken Kernel.to_quote m = do
   t ← take_to 34 255 m
   given (argument t 0)
 
 -- the state questions
 abbrev state_asked : Asks → Machine → Asked (Unit {0})
-state_asked Kernel.hasOpen m = ask m NoDefinition (not (m.names.opened == 0))
-state_asked Kernel.noneOpen m = ask m DefinitionOpen (m.names.opened == 0)
-state_asked Kernel.ipZero m = ask m WordRunning (ip m == 0)
-state_asked Kernel.ipSet m = ask m NoWordRunning (not (ip m == 0))
+state_asked Kernel.has_open m = ask m NoDefinition (not (m.names.opened == 0))
+state_asked Kernel.none_open m = ask m DefinitionOpen (m.names.opened == 0)
+state_asked Kernel.ip_zero m = ask m WordRunning (ip m == 0)
+state_asked Kernel.ip_set m = ask m NoWordRunning (not (ip m == 0))
 
 abbrev pub all_asked : List Asks → Machine → Asked (Unit {0})
 all_asked [] m = given tt
@@ -80,7 +80,7 @@ perform again (Kernel.returns w) a m = do_returns w m
 perform again (Kernel.inlines w) a m = do_inline w m
 perform again Kernel.execute a m = ask m StackUnderflow (has_cells 1 m) >> again (nth 0 m) (popped 1 m)
 perform again Kernel.tick a m = replaced 0 (token_of m.low a.entry ∷ []) m
-perform again Kernel.toBody a m = do
+perform again Kernel.to_body a m = do
   ask m StackUnderflow (has_cells 1 m)
   let t = nth 0 m
   let code = cell_at m.low t

@@ -45,11 +45,11 @@ unfolding do_kernel taken perform
 takes_off again t m = refl
 
 module _ (t : ℕ) (m : Machine) (p : in_dictionary t 2 m ≡ true) (q : cell_at m.low t ≡ 59) where
-  by-execute : execute t m ≡ (ask m StackUnderflow (has_cells 1 m) >> execute_within (length m.stacks.cells) (nth 0 m) (popped 1 m))
-  by-execute = within t m p ∙ ap (λ y. coded (execute_within (length m.stacks.cells)) y t m) q ∙ takes_off (execute_within (length m.stacks.cells)) t m
+  by_execute : execute t m ≡ (ask m StackUnderflow (has_cells 1 m) >> execute_within (length m.stacks.cells) (nth 0 m) (popped 1 m))
+  by_execute = within t m p ∙ ap (λ y. coded (execute_within (length m.stacks.cells)) y t m) q ∙ takes_off (execute_within (length m.stacks.cells)) t m
 
   none_left : has_cells 1 m ≡ false → execute t m ≡ refused StackUnderflow m
-  none_left h = by-execute ∙ ap (λ b. ask m StackUnderflow b >> execute_within (length m.stacks.cells) (nth 0 m) (popped 1 m)) h
+  none_left h = by_execute ∙ ap (λ b. ask m StackUnderflow b >> execute_within (length m.stacks.cells) (nth 0 m) (popped 1 m)) h
 
   one_less : (xs : List ℕ) → 0 < length xs → length xs ≡ suc (length (drop 1 xs))
   one_less [] h = absurd (omega arith)
@@ -58,7 +58,7 @@ module _ (t : ℕ) (m : Machine) (p : in_dictionary t 2 m ≡ true) (q : cell_at
   goes_on : has_cells 1 m ≡ true → 0 < length m.stacks.cells → execute t m ≡ execute (nth 0 m) (popped 1 m)
   unfolding execute
   goes_on h l =
-      by-execute ∙ ap (λ b. ask m StackUnderflow b >> execute_within (length m.stacks.cells) (nth 0 m) (popped 1 m)) h
+      by_execute ∙ ap (λ b. ask m StackUnderflow b >> execute_within (length m.stacks.cells) (nth 0 m) (popped 1 m)) h
       ∙ ap (λ n. execute_within n (nth 0 m) (popped 1 m)) (one_less m.stacks.cells l)
 
 -- as the code sees it
@@ -84,12 +84,12 @@ module _ (r : Registers) (i c : List ℕ) (li : length i ≡ 65536) (lc : length
     there : (e : List ℕ) (k : List Mark) (s : Meaning) → in_dictionary t 2 (seen r i c e k s) ≡ true
     there e k s = in_dictionary_lem e k s t 2 true (both (leb 256 t && leb (t + 2) r.shared.ends.dp) (eqb (cell_at (low_of r.shared.ends.dp i) t) 59) x).0
 
-    coded-59 : cell_at (low_of r.shared.ends.dp i) t ≡ 59
-    coded-59 = is_59 (cell_at (low_of r.shared.ends.dp i) t) (both (leb 256 t && leb (t + 2) r.shared.ends.dp) (eqb (cell_at (low_of r.shared.ends.dp i) t) 59) x).1
+    coded_59 : cell_at (low_of r.shared.ends.dp i) t ≡ 59
+    coded_59 = is_59 (cell_at (low_of r.shared.ends.dp i) t) (both (leb 256 t && leb (t + 2) r.shared.ends.dp) (eqb (cell_at (low_of r.shared.ends.dp i) t) 59) x).1
 
     pub none_to_take : (r' : Registers) (f : Fault) → Pops r c (Err f) r' → (e : List ℕ) (k : List Mark) (s : Meaning) → IsRefused (execute t (seen r i c e k s)) f (seen r' i c e k s)
     none_to_take r' f h e k s =
-        subst (λ y. IsRefused y f (seen r' i c e k s)) (sym (none_left t (seen r i c e k s) (there e k s) coded-59 (lacks_cells r i c e k s lc 1 (omega (arith, h.0)))))
+        subst (λ y. IsRefused y f (seen r' i c e k s)) (sym (none_left t (seen r i c e k s) (there e k s) coded_59 (lacks_cells r i c e k s lc 1 (omega (arith, h.0)))))
         (h.1, ap cleared (sym (same r r' i c e k s h.2 h.3)))
 
     pub took : (r' : Registers) (u : ℕ) → Pops r c (Ok u) r' → (e : List ℕ) (k : List Mark) (s : Meaning) → execute t (seen r i c e k s) ≡ execute u (seen r' i c e k s)
@@ -97,7 +97,7 @@ module _ (r : Registers) (i c : List ℕ) (li : length i ≡ 65536) (lc : length
         let m = seen r i c e k s in
         let d = r.seat.depths.cells in
         let n : length (stack_of d c) ≡ d = depth_of r i c e k s lc in
-        goes_on t m (there e k s) coded-59 (has_cells_lem r i c e k s lc 1 h.0) (omega (arith, n, h.0))
+        goes_on t m (there e k s) coded_59 (has_cells_lem r i c e k s lc 1 h.0) (omega (arith, n, h.0))
         ∙ ap (λ y. execute y (popped 1 m)) (sym h.1)
         ∙ ap (execute u) (sym (cells_view r r' i c c e k s (d - 1) (drop 1 (stack_of d c)) h.2 h.3 (sym (drop_stack d c 1 h.0 (omega (arith, r.cells, lc))))))
 

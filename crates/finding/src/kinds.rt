@@ -5,6 +5,7 @@ ghost use Rattle.image.specs.Cells.{cell_at};
 ghost use Rattle.finding.specs.Finding.{Interpreting, KindIs};
 ghost use Rattle.finding.specs.Kinds.{kind_at};
 ghost use Rattle.image.specs.Views.{low_of};
+ghost use Rattle.seat_dictionary.specs.Parts.{HoldsDictionary};
 ghost use Rattle.texts.specs.Texts.{WordInside};
 
 use super::searching::search;
@@ -40,7 +41,9 @@ fn base(image: &[u8]) -> u16
 
 // What the word just taken is: is it a name (5), is each link walked in order (6), is it found, or a number (7)?
 pub fn word_of(registers: &Registers, image: &[u8]) -> Result<Word, Fault>
-    requires { (length image.now ≡ 65536) × (WordInside registers.now.seat) }
+    requires lent { length image.now ≡ 65536 }
+    requires inside { WordInside registers.now.seat }
+    requires holds { HoldsDictionary registers.now }
     ensures kind { KindIs registers.now image.now result }
     ensures whole { Interpreting }
 {

@@ -31,7 +31,7 @@ to_r_acts : Acts 92 Kernel.to_r
 unfolding perform
 to_r_acts again a m = refl
 
-r_from_acts : Acts 93 Kernel.fromR
+r_from_acts : Acts 93 Kernel.from_r
 unfolding perform
 r_from_acts again a m = refl
 
@@ -78,13 +78,13 @@ to_r_full m h k = rw (h, k)
 to_r_yes : (m : Machine) → has_cells 1 m ≡ true → has_return_room 1 m ≡ true → do_returns Kernel.to_r m ≡ quietly (pushed_returns (nth 0 m ∷ []) (popped 1 m))
 to_r_yes m h k = rw (h, k)
 
-r_from_full : (m : Machine) → has_room 1 m ≡ false → do_returns Kernel.fromR m ≡ refused StackOverflow m
+r_from_full : (m : Machine) → has_room 1 m ≡ false → do_returns Kernel.from_r m ≡ refused StackOverflow m
 r_from_full m h = rw h
 
-r_from_no : (m : Machine) → has_room 1 m ≡ true → has_returns 1 m ≡ false → do_returns Kernel.fromR m ≡ refused ReturnUnderflow m
+r_from_no : (m : Machine) → has_room 1 m ≡ true → has_returns 1 m ≡ false → do_returns Kernel.from_r m ≡ refused ReturnUnderflow m
 r_from_no m h k = rw (h, k)
 
-r_from_yes : (m : Machine) → has_room 1 m ≡ true → has_returns 1 m ≡ true → do_returns Kernel.fromR m ≡ quietly (pushed (nth_return 0 m) (popped_returns 1 m))
+r_from_yes : (m : Machine) → has_room 1 m ≡ true → has_returns 1 m ≡ true → do_returns Kernel.from_r m ≡ quietly (pushed (nth_return 0 m) (popped_returns 1 m))
 r_from_yes m h k = rw (h, k)
 
 copy_full : (j : ℕ) (m : Machine) → has_room 1 m ≡ false → do_returns (Kernel.copy_at j) m ≡ refused StackOverflow m
@@ -129,10 +129,10 @@ module _ (r : Registers) (c t : List ℕ) (lc : length c ≡ 128) (lt : length t
       ∙ ap quietly (sym (push_return_view r' r'' i c c t t' k s x v ∙ ap (pushed_returns (x ∷ [])) (pop_view r r' i c c t t k s 1 u) ∙ ap (λ y. pushed_returns (y ∷ []) (popped 1 (seen r i c t k s))) p))
 
   pub r_from_over : (e : Fault) → 128 ≤ deep r → e ≡ fault_of StackOverflow (told_by r.seat) → (i : List ℕ) → OnReturns 93 r i c t (Err e) r c t
-  r_from_over e h p = refuses 93 Kernel.fromR r_from_acts r c t e StackOverflow (λ i k s. r_from_full (seen r i c t k s) (lacks_one r i c t k s lc h)) p
+  r_from_over e h p = refuses 93 Kernel.from_r r_from_acts r c t e StackOverflow (λ i k s. r_from_full (seen r i c t k s) (lacks_one r i c t k s lc h)) p
 
   pub r_from_short : (e : Fault) → deep r < 128 → deep_returns r < 1 → e ≡ fault_of ReturnUnderflow (told_by r.seat) → (i : List ℕ) → OnReturns 93 r i c t (Err e) r c t
-  r_from_short e h b p = refuses 93 Kernel.fromR r_from_acts r c t e ReturnUnderflow (λ i k s. r_from_no (seen r i c t k s) (has_one r i c t k s lc h) (lacks_returns r i c t k s lt 1 b)) p
+  r_from_short e h b p = refuses 93 Kernel.from_r r_from_acts r c t e ReturnUnderflow (λ i k s. r_from_no (seen r i c t k s) (has_one r i c t k s lc h) (lacks_returns r i c t k s lt 1 b)) p
 
   pub r_from_done : (r' r'' : Registers) (c' : List ℕ) (x : ℕ) → deep r < 128 → 1 ≤ deep_returns r → x ≡ top (deep_returns r) t 0 → PoppedReturns r r' t 1 → Pushed r' r'' c c' x → (i : List ℕ) → OnReturns 93 r i c t (Ok tt) r'' c' t
   r_from_done r' r'' c' x h b p u v i = λ again a k s.

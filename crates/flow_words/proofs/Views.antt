@@ -58,14 +58,14 @@ module _ (r r' : Registers) (i c c' t t' : List ℕ) (k : List Mark) (s : Meanin
   pub push_view : (x : ℕ) → Pushed r r' c c' x → seen r' i c' t k s ≡ pushed x (seen r i c t k s)
   push_view x e = cells_view r r' i c c' t k s _ _ e.shared e.seat e.stack
 
-  returns-view : (d : ℕ) (xs : List ℕ) → Returns r r' t' d xs → seen r' i c t' k s ≡ with_returns xs (seen r i c t k s)
-  returns-view d xs e =
+  returns_view : (d : ℕ) (xs : List ℕ) → Returns r r' t' d xs → seen r' i c t' k s ≡ with_returns xs (seen r i c t k s)
+  returns_view d xs e =
       ap (λ h. view_of h r'.seat (lent i c t' k) s) e.shared
       ∙ ap (λ h. view_of r.shared h (lent i c t' k) s) e.seat
       ∙ ap (λ ys. with_returns ys (seen r i c t k s)) e.stack
 
   pub push_return_view : (x : ℕ) → PushedReturn r r' t t' x → seen r' i c t' k s ≡ pushed_returns (x ∷ []) (seen r i c t k s)
-  push_return_view x e = returns-view _ _ e
+  push_return_view x e = returns_view _ _ e
 
   pub skip_view : Skipped r r' → seen r' i c t k s ≡ with_ip (r.seat.flow.ip + 2) (seen r i c t k s)
   skip_view e =
@@ -84,24 +84,24 @@ module _ (r r' : Registers) (i c c' t t' : List ℕ) (k : List Mark) (s : Meanin
       at (inr q) = rw q.0
 
 pub pop_return_view : (r r' : Registers) (i c t : List ℕ) (k : List Mark) (s : Meaning) (n : ℕ) → PoppedReturns r r' t n → seen r' i c t k s ≡ popped_returns n (seen r i c t k s)
-pop_return_view r r' i c t k s n e = returns-view r r' i c c t t k s _ _ e
+pop_return_view r r' i c t k s n e = returns_view r r' i c c t t k s _ _ e
 
 -- the questions on the return stack
 module _ (r : Registers) (i c t : List ℕ) (k : List Mark) (s : Meaning) (l : length t ≡ 128) where
-  returns-deep : length (stack_of (deep_returns r) t) ≡ deep_returns r
-  returns-deep = length_stack (deep_returns r) t (omega (arith, r.returns))
+  returns_deep : length (stack_of (deep_returns r) t) ≡ deep_returns r
+  returns_deep = length_stack (deep_returns r) t (omega (arith, r.returns))
 
   pub has_returns_lem : (n : ℕ) → n ≤ deep_returns r → has_returns n (seen r i c t k s) ≡ true
-  has_returns_lem n h = ap (leb n) returns-deep ∙ yes n (deep_returns r) h
+  has_returns_lem n h = ap (leb n) returns_deep ∙ yes n (deep_returns r) h
 
   pub lacks_returns : (n : ℕ) → deep_returns r < n → has_returns n (seen r i c t k s) ≡ false
-  lacks_returns n h = ap (leb n) returns-deep ∙ no n (deep_returns r) h
+  lacks_returns n h = ap (leb n) returns_deep ∙ no n (deep_returns r) h
 
   pub has_return_room_lem : (n : ℕ) → n + deep_returns r ≤ 128 → has_return_room n (seen r i c t k s) ≡ true
-  has_return_room_lem n h = ap (λ d. leb (n + d) 128) returns-deep ∙ yes (n + deep_returns r) 128 h
+  has_return_room_lem n h = ap (λ d. leb (n + d) 128) returns_deep ∙ yes (n + deep_returns r) 128 h
 
   pub lacks_return_room : (n : ℕ) → 128 < n + deep_returns r → has_return_room n (seen r i c t k s) ≡ false
-  lacks_return_room n h = ap (λ d. leb (n + d) 128) returns-deep ∙ no (n + deep_returns r) 128 h
+  lacks_return_room n h = ap (λ d. leb (n + d) 128) returns_deep ∙ no (n + deep_returns r) 128 h
 
 module _ (r : Registers) (i c t : List ℕ) (k : List Mark) (s : Meaning) (l : length c ≡ 128) where
   deep_is : length (stack_of (deep r) c) ≡ deep r

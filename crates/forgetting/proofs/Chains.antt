@@ -41,10 +41,10 @@ chain_zero (suc n) low = refl
 
 chain_step : (n : ℕ) (low : List ℕ) (v : ℕ) (vs : List ℕ) → chain n low (cell_at low (v + 8)) ≡ vs → chain (suc n) low (link_of (v ∷ vs)) ≡ v ∷ vs
 unfolding chain link_of
-chain_step n low v vs h = rw (ne_eqb (v + 8) 0 (λ x. omega arith)) (ap₂ ◌∷◌ v-is h)
+chain_step n low v vs h = rw (ne_eqb (v + 8) 0 (λ x. omega arith)) (ap₂ ◌∷◌ v_is h)
   where
-    v-is : v + 8 - 8 ≡ v
-    v-is = omega arith
+    v_is : v + 8 - 8 ≡ v
+    v_is = omega arith
 
 ends_at : {I : Image} {M : Stack} → Under (base I) M → Good M → cell_at (low_of M) 278 ≡ 0
 unfolding image
@@ -119,11 +119,11 @@ body_is {e} {s} {m} u g = ap (cell_at (low_of m)) place ∙ cell_from (low_of m)
     (kept u g (dp s + (7 + length e.name + 0)) (7 + length e.name + 0) refl (omega (arith, dp_push e s)) (inl (omega arith)) ∙ (unfold framed in (body_bytes e (cell_at (low_of s) (spot e)) (link_of (vocs_of s))).0))
     (kept u g (dp s + (7 + length e.name + 0) + 1) (7 + length e.name + 1) (omega arith) (omega (arith, dp_push e s)) (inl (omega arith)) ∙ (unfold framed in (body_bytes e (cell_at (low_of s) (spot e)) (link_of (vocs_of s))).1))
   where
-    count-is : at (low_of m) (dp s + 2 + 2) ≡ e.count
-    count-is = kept u g (dp s + 2 + 2) 4 (omega arith) (omega (arith, dp_push e s)) (inl (omega arith)) ∙ (unfold framed frame cell in refl)
+    count_is : at (low_of m) (dp s + 2 + 2) ≡ e.count
+    count_is = kept u g (dp s + 2 + 2) 4 (omega arith) (omega (arith, dp_push e s)) (inl (omega arith)) ∙ (unfold framed frame cell in refl)
 
     place : dp s + 2 + 5 + at (low_of m) (dp s + 2 + 2) % 32 ≡ dp s + (7 + length e.name + 0)
-    place = rw count-is (omega (arith, (good_under u g).0.counted))
+    place = rw count_is (omega (arith, (good_under u g).0.counted))
 
 -- every entry at the fence or above that a walk from a head comes to is on the stack
 abbrev pub On : ℕ → ℕ → Stack → Type 0
@@ -152,26 +152,26 @@ walk_split (next l r) = inr r
 
 pub found : (m M : Stack) → Under m M → Good M → (v k : ℕ) → Mem v (vocs_of m) → k < 4 → (h y : ℕ) → h ≡ cell_at (low_of m) (v + 2 * k)
     → Walk (low_of M) h y → fence m ≤ y → On v y M
-found (base I) M u g v k x l h y q r f = let z : ⊥ = omega (arith, walk_le r, head_low (base I) (good_under u g) v k x l, base-fence) in absurd z
+found (base I) M u g v k x l h y q r f = let z : ⊥ = omega (arith, walk_le r, head_low (base I) (good_under u g) v k x l, base_fence) in absurd z
   where
-    base-fence : fence (base I) ≡ dp (base I)
-    base-fence = unfold fence image in refl
+    base_fence : fence (base I) ≡ dp (base I)
+    base_fence = unfold fence image in refl
 found (push e m) M u g v k x l h y q r f = elim (mem_image e m v x) [
   | inl a ↦ elim (head_older e m (good_under u g) v k a l) [
     | inl b ↦ elim (walk_split r) [
       | inl c ↦ (e, m, u, c ∙ (q ∙ b.1), a)
-      | inr c ↦ found m M (under_pop u) g v k a l (cell_at (low_of M) h) y (ap (cell_at (low_of M)) (q ∙ b.1) ∙ (link_is u g ∙ ap (cell_at (low_of m)) (sym b.0))) c (rw f-is at f)
+      | inr c ↦ found m M (under_pop u) g v k a l (cell_at (low_of M) h) y (ap (cell_at (low_of M)) (q ∙ b.1) ∙ (link_is u g ∙ ap (cell_at (low_of m)) (sym b.0))) c (rw f_is at f)
     ]
-    | inr b ↦ found m M (under_pop u) g v k a l h y (q ∙ b) r (rw f-is at f)
+    | inr b ↦ found m M (under_pop u) g v k a l h y (q ∙ b) r (rw f_is at f)
   ]
-  | inr a ↦ let z : ⊥ = omega (arith, walk_le r, head_new e m v k a.0 a.1 l, f, f-pos) in absurd z
+  | inr a ↦ let z : ⊥ = omega (arith, walk_le r, head_new e m v k a.0 a.1 l, f, f_pos) in absurd z
 ]
   where
-    f-is : fence (push e m) ≡ fence m
-    f-is = unfold fence in refl
+    f_is : fence (push e m) ≡ fence m
+    f_is = unfold fence in refl
 
-    f-pos : 0 < fence (push e m)
-    f-pos = fence_pos (push e m) (good_under u g)
+    f_pos : 0 < fence (push e m)
+    f_pos = fence_pos (push e m) (good_under u g)
 
 -- the youngest entry that a head names
 in_le : (v k : ℕ) (low : List ℕ) (x : ℕ) → ((j : ℕ) → j < k → cell_at low (v + 2 * j) ≤ x) → youngest_in v k low ≤ x

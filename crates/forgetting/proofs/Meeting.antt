@@ -146,13 +146,13 @@ forgets D E s =
     let c = s.beginning in
     let k = subst (λ B. stacked.Keeps fence (next_entry D) B E) (sym (meets c D)) (keeps (next_entry D) (changed c D) E s.standing) in
     let r = whole.forgotten boot_dict D E (move_of c) boots (run boot_dict D s.before) (begin c s.begins) (allowed fence c D s.allowed) k (allowed fence (forget (next_entry D)) E s.found) in
-    renamed (subst (λ F. stacked.Same F D) (drop-meets (next_entry D) E) r)
+    renamed (subst (λ F. stacked.Same F D) (drop_meets (next_entry D) E) r)
   where
     renamed : {A B : Dict} → stacked.Same A B → Same A B
     renamed r = record { ends = r.dp; here = r.here; voc_link = r.voc_link; chain = r.chain; bytes = r.bytes }
 
-    drop-meets : (w : ℕ) (A : Dict) → apply (moves.forget w) A ≡ forgotten w A
-    drop-meets w A = unfold apply in unfold forgotten in refl
+    drop_meets : (w : ℕ) (A : Dict) → apply (moves.forget w) A ≡ forgotten w A
+    drop_meets w A = unfold apply in unfold forgotten in refl
 
 -- one story after the other
 keeps_then : {w : ℕ} {A B C : Dict} → Keeps w A B → Keeps w B C → Keeps w A C

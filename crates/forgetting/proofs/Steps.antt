@@ -227,8 +227,8 @@ module _ (F : ℕ) (D : Dict) (e : Entry) (m : Stack) (c : Opened F D e m) (r : 
   low9 : D.low ≡ low_of m ++ (head9 e (cell_at (low_of m) (spot e)) ++ e.rest)
   low9 = c.low_is ∙ ap (λ z. low_of m ++ z) (framed_plain e m c.plain)
 
-  rest-fits : dp m + 9 + length e.name + length r ≤ 32768 → Bytes r → Fits (with_rest e r) (image m)
-  rest-fits h b = record {
+  rest_fits : dp m + 9 + length e.name + length r ≤ 32768 → Bytes r → Fits (with_rest e r) (image m)
+  rest_fits h b = record {
     voc_in = c.fits.voc_in;
     thread_lt = c.fits.thread_lt;
     counted = c.fits.counted;
@@ -238,10 +238,10 @@ module _ (F : ℕ) (D : Dict) (e : Entry) (m : Stack) (c : Opened F D e m) (r : 
     extra = λ x. elim x [ inl y ↦ (let z : ⊥ = omega (arith, c.code_is) in absurd z) | inr y ↦ (let z : ⊥ = omega (arith, c.code_is) in absurd z) ];
   }
 
-  rest-opened : (D' : Dict) → D'.low ≡ low_of m ++ (head9 e (cell_at (low_of m) (spot e)) ++ r) → D'.voc_link ≡ D.voc_link → D'.newest ≡ D.newest
+  rest_opened : (D' : Dict) → D'.low ≡ low_of m ++ (head9 e (cell_at (low_of m) (spot e)) ++ r) → D'.voc_link ≡ D.voc_link → D'.newest ≡ D.newest
       → D'.context ≡ D.context → D'.current ≡ D.current → D'.opened ≡ D.opened
       → dp m + 9 + length e.name + length r ≤ 32768 → Bytes r → Opened F D' (with_rest e r) m
-  rest-opened D' p q₁ q₂ q₃ q₄ q₅ h b = record {
+  rest_opened D' p q₁ q₂ q₃ q₄ q₅ h b = record {
     low_is = p ∙ ap (λ z. low_of m ++ z) (sym (framed_rest e m r c.plain));
     link_is = q₁ ∙ c.link_is;
     newest_is = q₂ ∙ c.newest_is;
@@ -250,7 +250,7 @@ module _ (F : ℕ) (D : Dict) (e : Entry) (m : Stack) (c : Opened F D e m) (r : 
     open_is = q₅ ∙ c.open_is;
     fence_is = c.fence_is;
     good = c.good;
-    fits = rest-fits h b;
+    fits = rest_fits h b;
     plain = c.plain;
     code_is = c.code_is;
     thread_is = c.thread_is;
@@ -261,7 +261,7 @@ pub go_append : (F : ℕ) (D : Dict) (e : Entry) (m : Stack) (bs : List ℕ) →
 unfolding apply
 go_append F D e m bs c a = (
   opened (with_rest e (e.rest ++ bs)) m,
-  rest-opened F D e m c (e.rest ++ bs) (apply (append bs) D) bytes refl refl refl refl refl
+  rest_opened F D e m c (e.rest ++ bs) (apply (append bs) D) bytes refl refl refl refl refl
       (omega (arith, a.room, ap length (low9 F D e m c bs), length-append (low_of m) (h ++ e.rest), length-append h e.rest, length-append e.rest bs, length_head9 e (cell_at (low_of m) (spot e))))
       (append-bytes e.rest bs (bytes_back h e.rest (rw (framed_plain e m c.plain) at c.fits.whole)) a.whole),
   λ s b x n. x,
@@ -302,7 +302,7 @@ pub go_patch : (F : ℕ) (D : Dict) (e : Entry) (m : Stack) (a x : ℕ) → Open
 unfolding apply
 go_patch F D e m a x c q = (
   opened (with_rest e r) m,
-  rest-opened F D e m c r (apply (patch a x) D) bytes refl refl refl refl refl
+  rest_opened F D e m c r (apply (patch a x) D) bytes refl refl refl refl refl
       (rw (length-set_cell e.rest (a - n) x) (omega (arith, c.fits.room, length_grow e (image m))))
       (set-bytes e.rest (a - n) x (omega (arith, open_long F D e m c, q.below, from)) q.value (bytes_back h e.rest (rw (framed_plain e m c.plain) at c.fits.whole))),
   λ s b y z. y,
@@ -320,21 +320,21 @@ go_patch F D e m a x c q = (
     front_long : length (low_of m ++ h) ≡ n
     front_long = length-append (low_of m) h ∙ ap (λ k. dp m + k) (length_head9 e (cell_at (low_of m) (spot e)))
 
-    low-split : D.low ≡ (low_of m ++ h) ++ e.rest
-    low-split = low9 F D e m c r ∙ sym (append_assoc (low_of m) h e.rest)
+    low_split : D.low ≡ (low_of m ++ h) ++ e.rest
+    low_split = low9 F D e m c r ∙ sym (append_assoc (low_of m) h e.rest)
 
     from : n ≤ a
     from = omega (arith, q.above, open_first F D e m c)
 
     bytes : set_cell D.low a x ≡ low_of m ++ (h ++ r)
-    bytes = rw low-split (set_cell_right (low_of m ++ h) e.rest n a x front_long from ∙ append_assoc (low_of m) h r)
+    bytes = rw low_split (set_cell_right (low_of m ++ h) e.rest n a x front_long from ∙ append_assoc (low_of m) h r)
 
 pub go_semi : (F : ℕ) (D : Dict) (e : Entry) (m : Stack) → Opened F D e m → Goes F semi D (opened e m)
 unfolding apply newest_of fence
 go_semi F D e m c = (
   shut (push e m),
   record {
-    low_is = rw (c.current_is, c.open_is, thread-of, c.low_is) (joined_is e m g);
+    low_is = rw (c.current_is, c.open_is, thread_of_lem, c.low_is) (joined_is e m g);
     link_is = c.link_is ∙ ap link_of (sym vocs_are);
     newest_is = c.open_is;
     context_in = mem_image_older e m D.context c.context_in;
@@ -352,8 +352,8 @@ go_semi F D e m c = (
     vocs_are : vocs_of (push e m) ≡ vocs_of m
     vocs_are = plain_vocs e m c.plain
 
-    thread-of : at D.low (dp m + 2 + 3) % 4 ≡ e.thread
-    thread-of = ap (λ k. k % 4) (open_at F D e m c (dp m + 2 + 3) 5 (omega arith) ∙ framed_name e (image m) c.named) ∙ sym c.thread_is
+    thread_of_lem : at D.low (dp m + 2 + 3) % 4 ≡ e.thread
+    thread_of_lem = ap (λ k. k % 4) (open_at F D e m c (dp m + 2 + 3) 5 (omega arith) ∙ framed_name e (image m) c.named) ∙ sym c.thread_is
 
 -- IMMEDIATE and (;CODE) change the youngest entry only
 swap_top : (s : Stack) (b : ℕ) (e f : Entry) (m : Stack) → f.body ≡ e.body → Over s b (push e m) → Over s b (push f m)
@@ -380,9 +380,9 @@ set_bytes_1 low i x h b a = elim (cases_lt i (length low)) [
 
 -- another youngest entry of the same size in its place
 module _ (e f : Entry) (m : Stack) (p : f.is_voc ≡ e.is_voc) (q : length f.name ≡ length e.name) (r : length f.rest ≡ length e.rest) where
-  same-vocs : vocs_of (push f m) ≡ vocs_of (push e m)
+  same_vocs : vocs_of (push f m) ≡ vocs_of (push e m)
   unfolding image grow
-  same-vocs = rw (p, q, r)
+  same_vocs = rw (p, q, r)
 
   same_room : length (grow e (image m)).low ≤ 32768 → length (grow f (image m)).low ≤ 32768
   same_room h = rw (length_grow f (image m), p, q, r) (rw (length_grow e (image m)) at h)
@@ -392,10 +392,10 @@ module _ (e f : Entry) (m : Stack) (p : f.is_voc ≡ e.is_voc) (q : length f.nam
   unfolding newest_of fence
   retop F D D' c l q₁ q₂ q₃ q₄ q₅ t = record {
     low_is = l;
-    link_is = q₁ ∙ (c.link_is ∙ ap link_of (sym same-vocs));
+    link_is = q₁ ∙ (c.link_is ∙ ap link_of (sym same_vocs));
     newest_is = q₂ ∙ c.newest_is;
-    context_in = rw (q₃, same-vocs) c.context_in;
-    current_in = rw (q₄, same-vocs) c.current_in;
+    context_in = rw (q₃, same_vocs) c.context_in;
+    current_in = rw (q₄, same_vocs) c.current_in;
     open_is = q₅ ∙ c.open_is;
     fence_is = c.fence_is;
     good = (t, c.good.1);
@@ -425,14 +425,14 @@ go_immediate_top F D e m c = (shut (push f m), retop e f m refl refl refl F D (a
     f : Entry
     f = with_count e c'
 
-    now-is : at D.low (D.newest + 2) ≡ e.count
-    now-is = top_at F D e m c (D.newest + 2) 4 (omega (arith, newest_top F D e m c)) ∙ framed_count e (image m)
+    now_is : at D.low (D.newest + 2) ≡ e.count
+    now_is = top_at F D e m c (D.newest + 2) 4 (omega (arith, newest_top F D e m c)) ∙ framed_count e (image m)
 
     four : D.newest + 2 - dp m ≡ 4
     four = omega (arith, newest_top F D e m c)
 
     bytes : set D.low (D.newest + 2) (marked (at D.low (D.newest + 2))) ≡ low_of (push f m)
-    bytes = ap (λ k. set D.low (D.newest + 2) (marked k)) now-is
+    bytes = ap (λ k. set D.low (D.newest + 2) (marked k)) now_is
         ∙ (ap (λ l. set l (D.newest + 2) c') (top_set F D e m c)
         ∙ (set-append_right (set_cell (low_of m) (spot e) (dp m + 2)) (framed e (image m)) (dp m) (D.newest + 2) c' (length-set_cell (low_of m) (spot e) (dp m + 2)) (omega (arith, newest_top F D e m c))
         ∙ (ap (λ k. set_cell (low_of m) (spot e) (dp m + 2) ++ set (framed e (image m)) k c') four
@@ -526,14 +526,14 @@ go_does_top F D e m x c a = (shut (push f m), retop e f m refl refl long F D (ap
     base' : List ℕ
     base' = set_cell (low_of m) (spot e) (dp m + 2)
 
-    base-long : length base' ≡ dp m
-    base-long = length-set_cell (low_of m) (spot e) (dp m + 2)
+    base_long : length base' ≡ dp m
+    base_long = length-set_cell (low_of m) (spot e) (dp m + 2)
 
-    count-is : at D.low (D.newest + 2) ≡ e.count
-    count-is = top_at F D e m c (D.newest + 2) 4 (omega (arith, newest_top F D e m c)) ∙ framed_count e (image m)
+    count_is : at D.low (D.newest + 2) ≡ e.count
+    count_is = top_at F D e m c (D.newest + 2) 4 (omega (arith, newest_top F D e m c)) ∙ framed_count e (image m)
 
     first : first_at D.low D.newest ≡ dp m + 7 + length e.name
-    first = unfold first_at in rw count-is (omega (arith, newest_top F D e m c, g.0.counted))
+    first = unfold first_at in rw count_is (omega (arith, newest_top F D e m c, g.0.counted))
 
     code_is : cell_at D.low (first_at D.low D.newest - 2) ≡ e.code
     code_is = cell_from D.low (first_at D.low D.newest - 2) e.code
@@ -554,13 +554,13 @@ go_does_top F D e m x c a = (shut (push f m), retop e f m refl refl long F D (ap
 
     bytes : set_cell (set_cell D.low (first_at D.low D.newest - 2) 205) (first_at D.low D.newest + 2) x ≡ low_of (push f m)
     bytes = ap (λ z. set_cell (set_cell z (first_at D.low D.newest - 2) 205) (first_at D.low D.newest + 2) x) (top_set F D e m c)
-        ∙ (ap (λ z. set_cell z (first_at D.low D.newest + 2) x) (set_cell_right base' (framed e (image m)) (dp m) (first_at D.low D.newest - 2) 205 base-long (omega (arith, first)))
-        ∙ (set_cell_right base' (set_cell (framed e (image m)) (first_at D.low D.newest - 2 - dp m) 205) (dp m) (first_at D.low D.newest + 2) x base-long (omega (arith, first))
+        ∙ (ap (λ z. set_cell z (first_at D.low D.newest + 2) x) (set_cell_right base' (framed e (image m)) (dp m) (first_at D.low D.newest - 2) 205 base_long (omega (arith, first)))
+        ∙ (set_cell_right base' (set_cell (framed e (image m)) (first_at D.low D.newest - 2 - dp m) 205) (dp m) (first_at D.low D.newest + 2) x base_long (omega (arith, first))
         ∙ (ap₂ (λ i j. base' ++ set_cell (set_cell (framed e (image m)) i 205) j x) p₁ p₂
         ∙ (ap (λ z. base' ++ z) (does_bytes e m x roomy.0) ∙ sym (low_push f m)))))
 
-    framed-long : length (framed e (image m)) ≡ 9 + length e.name + length e.rest + cond e.is_voc 10 0
-    framed-long = unfold framed in length_frame e (cell_at (low_of m) (spot e)) (link_of (vocs_of m))
+    framed_long : length (framed e (image m)) ≡ 9 + length e.name + length e.rest + cond e.is_voc 10 0
+    framed_long = unfold framed in length_frame e (cell_at (low_of m) (spot e)) (link_of (vocs_of m))
 
     fit : Fits f (image m)
     fit = record {
@@ -569,8 +569,8 @@ go_does_top F D e m x c a = (shut (push f m), retop e f m refl refl long F D (ap
       counted = g.0.counted;
       room = same_room e f m refl refl long g.0.room;
       whole = rw (← does_bytes e m x roomy.0) (set-bytes (set_cell (framed e (image m)) (5 + length e.name) 205) (9 + length e.name) x
-          (rw (length-set_cell (framed e (image m)) (5 + length e.name) 205) (omega (arith, framed-long, roomy.0))) a.value
-          (set-bytes (framed e (image m)) (5 + length e.name) 205 (omega (arith, framed-long)) (omega arith) g.0.whole));
+          (rw (length-set_cell (framed e (image m)) (5 + length e.name) 205) (omega (arith, framed_long, roomy.0))) a.value
+          (set-bytes (framed e (image m)) (5 + length e.name) 205 (omega (arith, framed_long)) (omega arith) g.0.whole));
       extra = λ y. (rw long roomy.0, roomy.1);
     }
 
@@ -620,10 +620,10 @@ go_immediate_base F D I c = (
       whole = set_bytes_1 I.low i k (marked_byte (at I.low i) (g.whole i)) g.whole;
       newest_from = rw young g.newest_from;
       newest_to = rw (young, length-set I.low i k) g.newest_to;
-      kernel = rw (young, first-same, set-other-cell I.low i k (first_at I.low y - 2) (omega (arith, first-from)) (omega (arith, first-from))) g.kernel;
+      kernel = rw (young, first_same, set-other-cell I.low i k (first_at I.low y - 2) (omega (arith, first_from)) (omega (arith, first_from))) g.kernel;
     };
   },
-  λ s b x n. absurd (no-base x.1),
+  λ s b x n. absurd (no_base x.1),
 )
   where
     g : Booted I
@@ -644,14 +644,14 @@ go_immediate_base F D I c = (
     young : youngest I.vocs (set I.low i k) ≡ y
     young = forth_youngest I.low (set I.low i k) I.vocs g.vocs_are (λ j l. set-other-cell I.low i k (270 + 2 * j) (omega (arith, g.newest_from)) (omega (arith, g.newest_from)))
 
-    first-same : first_at (set I.low i k) y ≡ first_at I.low y
-    first-same = unfold first_at in ap (λ z. y + 5 + z) (ap (λ z. z % 32) (get_or-set_same I.low i k 0 (omega (arith, g.newest_to))) ∙ marked_same (at I.low i))
+    first_same : first_at (set I.low i k) y ≡ first_at I.low y
+    first_same = unfold first_at in ap (λ z. y + 5 + z) (ap (λ z. z % 32) (get_or-set_same I.low i k 0 (omega (arith, g.newest_to))) ∙ marked_same (at I.low i))
 
-    first-from : y + 5 ≤ first_at I.low y
-    first-from = unfold first_at in omega arith
+    first_from : y + 5 ≤ first_at I.low y
+    first_from = unfold first_at in omega arith
 
-    no-base : {e : Entry} {s : Stack} → Under (push e s) (base I) → ⊥
-    no-base u = under_base u
+    no_base : {e : Entry} {s : Stack} → Under (push e s) (base I) → ⊥
+    no_base u = under_base u
 
 pub go_allot : (F : ℕ) (D : Dict) (m : Stack) (h : ℕ) → Shut F D m → Goes F (allot h) D (shut m)
 unfolding apply

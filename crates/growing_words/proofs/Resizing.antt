@@ -32,35 +32,22 @@ use Rattle.growing_words.specs.Numbers.{with_here}
 use Rattle.growing_words.specs.Allotting.{moved_by, lowest_of, allowed}
 use Rattle.growing_words.proofs.Appending.{deep, end, built, here_is}
 
--- the newest entry, where it lies whole in the dictionary
-in_order_lies : (low : List ℕ) (dp e : ℕ) → in_order low dp dp e ≡ true → (258 ≤ e) × (first_at low e + 2 ≤ dp)
-in_order_lies low dp e h = (grind (arith, nat_tests), grind (arith, nat_tests))
+-- a byte that lies in no dictionary counts as 0
+byte_before : (dp a : ℕ) (xs : List ℕ) → a < 256 → at (low_of dp xs) a ≡ 0
+unfolding low_of
+byte_before dp a xs h =
+    let z : length (zeros 256) ≡ 256 = length-replicate 256 0 in
+    get_or_append_left (zeros 256) (drop 256 (take dp xs)) 0 a (omega arith) ∙ get_or-replicate 256 0 0 a h
 
-first_behind : (low : List ℕ) (e : ℕ) → e + 5 ≤ first_at low e
-unfolding first_at
-first_behind low e = omega arith
+byte_behind : (dp a : ℕ) (xs : List ℕ) → 256 ≤ dp → dp ≤ length xs → dp ≤ a → at (low_of dp xs) a ≡ 0
+byte_behind dp a xs b l h = get_or_past (low_of dp xs) a 0 (omega (arith, length_low dp xs b l))
+
+pub byte_outside : (dp a : ℕ) (xs : List ℕ) → 256 ≤ dp → dp ≤ length xs → (a < 256) ⊎ (dp ≤ a) → at (low_of dp xs) a ≡ 0
+byte_outside dp a xs b l (inl h) = byte_before dp a xs h
+byte_outside dp a xs b l (inr h) = byte_behind dp a xs b l h
 
 abbrev low_in : Registers → List ℕ → List ℕ
 low_in r i = low_of r.shared.ends.dp i
-
-module _ (r : Registers) (i : List ℕ) where
-  abbrev newest : ℕ
-  newest = r.shared.names.newest
-
-  abbrev Lies : Bool → Type 0
-  Lies b = in_order (low_in r i) r.shared.ends.dp r.shared.ends.dp newest ≡ b
-
-  pub newest_lies : Lies true → (256 ≤ newest) × (newest + 2 < r.shared.ends.dp)
-  newest_lies h =
-      let p = in_order_lies (low_in r i) r.shared.ends.dp newest h in
-      let q = first_behind (low_in r i) newest in
-      (omega (arith, p.0), omega (arith, p.1, q))
-
-  pub first_lies : (f : ℕ) → Lies true → f ≡ first_at (low_in r i) newest → (256 ≤ f) × (f + 1 < r.shared.ends.dp)
-  first_lies f h e =
-      let p = in_order_lies (low_in r i) r.shared.ends.dp newest h in
-      let q = first_behind (low_in r i) newest in
-      (omega (arith, p.0, q, e), omega (arith, p.1, e))
 
 -- data space of n bytes, those that are added cleared
 cut : (here to : ℕ) (xs : List ℕ) → 32768 ≤ here → here ≤ length xs → to ≤ here → high_of to (overwritten here (replicate (to - here) 0) xs) ≡ take (to - 32768) (high_of here xs) ++ zeros (to - 32768 - length (high_of here xs))
@@ -101,7 +88,7 @@ allot_short : (m : Machine) → has_cells 1 m ≡ false → do_space Kernel.allo
 allot_short m h = rw h
 
 abbrev floor : Machine → ℕ
-floor m = lowest_of m.low (length m.low) m.names.newest
+floor m = lowest_of m.low m.names.newest
 
 allot_full : (m : Machine) → has_cells 1 m ≡ true → allowed (floor m) (moved_by (here m) (nth 0 m)) ≡ false → do_space Kernel.allot m ≡ refused DataFull m
 allot_full m h k = rw (h, k)
@@ -114,12 +101,11 @@ module _ (r : Registers) (i c : List ℕ) (li : length i ≡ 65536) (lc : length
   top = get_or (stack_of (deep r) c) 0 0
 
   abbrev bottom : ℕ
-  bottom = lowest_of (low_in r i) r.shared.ends.dp r.shared.names.newest
+  bottom = lowest_of (low_in r i) r.shared.names.newest
 
   asked_is : (t : List ℕ) (k : List Mark) (s : Meaning) (n : ℕ) (b : Bool) → n ≡ top → allowed bottom (moved_by (end r) n) ≡ b → allowed (floor (seen r i c t k s)) (moved_by (here (seen r i c t k s)) top) ≡ b
   asked_is t k s n b p q =
-      ap (λ y. allowed (lowest_of (low_in r i) y r.shared.names.newest) (moved_by (here (seen r i c t k s)) top)) (length_low r.shared.ends.dp i (dp_bottom r) (omega (arith, r.top)))
-      ∙ ap (λ y. allowed bottom (moved_by y top)) (here_is r i c li lc t k s) ∙ ap (λ y. allowed bottom (moved_by (end r) y)) (sym p) ∙ q
+      ap (λ y. allowed bottom (moved_by y top)) (here_is r i c li lc t k s) ∙ ap (λ y. allowed bottom (moved_by (end r) y)) (sym p) ∙ q
 
   pub short : (e : Fault) → deep r < 1 → e ≡ fault_of StackUnderflow (told_by r.seat) → OnSpace 46 r i c (Err e) r i c
   short e h p = λ again a t k s. refused_at (acts 46 again a) (seen r i c t k s) e StackUnderflow (allot_acts again a (seen r i c t k s) ∙ allot_short (seen r i c t k s) (lacks_cells r i c t k s lc 1 h)) p

@@ -1,16 +1,17 @@
 // ALLOT: data space longer or shorter.
-ghost use Rattle.std.specs.Prelude.{◌≡◌, ◌+◌, ◌-◌, ◌≤◌, max, true, false, length, take, replicate, MatchResult};
+ghost use Rattle.std.specs.Prelude.{◌≡◌, ◌+◌, ◌-◌, ◌<◌, ◌≤◌, max, true, false, length, take, replicate, MatchResult};
 ghost use Rattle.fault.specs.Numbers.{fault_of};
 ghost use Rattle.fault.specs.declared.Reason.TheVariants.{DataFull};
 ghost use Rattle.growing_words.specs.Allotting.{allowed, lowest_of, moved_by};
 ghost use Rattle.growing_words.specs.Numbers.{with_here};
+ghost use Rattle.image.specs.Cells.{at, cell_at};
 ghost use Rattle.image.specs.Views.{low_of};
 ghost use Rattle.image.specs.Writes.{overwritten};
 ghost use Rattle.steps.specs.Does.{OnSpace};
 ghost use Rattle.steps.specs.Seats.{told_by};
 
 use definition::ranged::Registers;
-use entries::{cell, first_parameter, in_order};
+use entries::byte;
 use fault::{Fault, Reason};
 use steps::cells;
 use steps::faults::refusal;
@@ -33,18 +34,39 @@ fn at_least_bottom(body: u16) -> u16
     if body > 34048 { body } else { 34048 }
 }
 
-// The lowest that HERE may go: the newest entry's first parameter cell, where that entry lies whole in the dictionary, and not below 34,048.
+// A byte of the dictionary; what does not lie in it counts as 0.
+fn byte_or_zero(image: &[u8], dp: u16, a: u16) -> u8
+    requires lent { length image.now ≡ 65536 }
+    requires bottom { 256 ≤ dp }
+    ensures { result ≡ at (low_of dp image.now) a }
+{
+    if a < 256 || a >= dp {
+        return 0;
+    }
+    byte(image, dp, a)
+}
+
+// A cell of the dictionary, of such bytes.
+fn cell_or_zero(image: &[u8], dp: u16, a: u16) -> u16
+    requires lent { length image.now ≡ 65536 }
+    requires bottom { 256 ≤ dp }
+    requires inside { a < 65535 }
+    ensures { result ≡ cell_at (low_of dp image.now) a }
+{
+    u16::from(byte_or_zero(image, dp, a)) + 256 * u16::from(byte_or_zero(image, dp, a + 1))
+}
+
+// The lowest that HERE may go: the newest entry's first parameter cell, and not below 34,048.
 fn lowest(registers: &Registers, image: &[u8]) -> u16
     requires { length image.now ≡ 65536 }
-    ensures value { result ≡ lowest_of (low_of registers.now.shared.ends.dp image.now) registers.now.shared.ends.dp registers.now.shared.names.newest }
+    ensures value { result ≡ lowest_of (low_of registers.now.shared.ends.dp image.now) registers.now.shared.names.newest }
     ensures low { 34048 ≤ result }
 {
     let dp = registers.shared.ends.dp;
     let newest = registers.shared.names.newest;
-    if !in_order(image, dp, dp, newest) {
-        return 34048;
-    }
-    at_least_bottom(cell(image, dp, first_parameter(image, dp, newest)))
+    let length = byte_or_zero(image, dp, newest + 2) % 32;
+    let first = newest + 5 + u16::from(length);
+    at_least_bottom(cell_or_zero(image, dp, first))
 }
 
 fn is_allowed(lowest: u16, end: usize) -> bool
@@ -56,7 +78,7 @@ fn is_allowed(lowest: u16, end: usize) -> bool
 // Where HERE goes, if it may.
 fn new_end(registers: &Registers, image: &[u8], n: u16) -> Result<u16, Fault>
     requires { length image.now ≡ 65536 }
-    ensures { MatchResult result (λ end. (end ≡ moved_by registers.now.shared.ends.here n) × (allowed (lowest_of (low_of registers.now.shared.ends.dp image.now) registers.now.shared.ends.dp registers.now.shared.names.newest) end ≡ true) × (34048 ≤ end) × (end ≤ 65535)) (λ e. (allowed (lowest_of (low_of registers.now.shared.ends.dp image.now) registers.now.shared.ends.dp registers.now.shared.names.newest) (moved_by registers.now.shared.ends.here n) ≡ false) × (e ≡ fault_of DataFull (told_by registers.now.seat))) }
+    ensures { MatchResult result (λ end. (end ≡ moved_by registers.now.shared.ends.here n) × (allowed (lowest_of (low_of registers.now.shared.ends.dp image.now) registers.now.shared.names.newest) end ≡ true) × (34048 ≤ end) × (end ≤ 65535)) (λ e. (allowed (lowest_of (low_of registers.now.shared.ends.dp image.now) registers.now.shared.names.newest) (moved_by registers.now.shared.ends.here n) ≡ false) × (e ≡ fault_of DataFull (told_by registers.now.seat))) }
 {
     let end = moved_by(registers.shared.ends.here, n);
     if is_allowed(lowest(registers, image), end) {

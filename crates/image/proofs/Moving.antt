@@ -17,18 +17,18 @@ length_moved (suc n) from to xs = length-set (moved_up n from to xs) (to + n) (g
 
 -- one byte more moved
 module _ (n from to : ℕ) (xs before : List ℕ) (old : Moved n from to xs before) (fits : to + n < length xs) where
-  moreMoved : List ℕ
-  moreMoved = set before (to + n) (get_or before (from + n) 0)
+  more_moved : List ℕ
+  more_moved = set before (to + n) (get_or before (from + n) 0)
 
-  other : (a : ℕ) → a ≢ to + n → get_or moreMoved a 0 ≡ get_or before a 0
-  unfolding moreMoved
+  other : (a : ℕ) → a ≢ to + n → get_or more_moved a 0 ≡ get_or before a 0
+  unfolding more_moved
   other a ne = get_or-set_other before (to + n) a (get_or before (from + n) 0) 0 ne
 
-  at_last : (i : ℕ) → i ≡ n → get_or moreMoved (to + i) 0 ≡ get_or before (from + n) 0
-  unfolding moreMoved
+  at_last : (i : ℕ) → i ≡ n → get_or more_moved (to + i) 0 ≡ get_or before (from + n) 0
+  unfolding more_moved
   at_last i e =
       let s : to + n < length before = omega (arith, old.size) in
-      ap (λ k. get_or moreMoved (to + k) 0) e ∙ get_or-set_same before (to + n) (get_or before (from + n) 0) 0 s
+      ap (λ k. get_or more_moved (to + k) 0) e ∙ get_or-set_same before (to + n) (get_or before (from + n) 0) 0 s
 
   last_or : (i : ℕ) → i < suc n → (i ≡ n) ⊎ (i < n)
   last_or i b = eq-or-lt_of_le (omega arith)
@@ -36,19 +36,19 @@ module _ (n from to : ℕ) (xs before : List ℕ) (old : Moved n from to xs befo
   source_is : (i : ℕ) → i ≡ n → get_or xs (from + n) 0 ≡ get_or xs (from + i) 0
   source_is i e = ap (λ k. get_or xs (from + k) 0) (sym e)
 
-  moved_more : Moved (suc n) from to xs moreMoved
-  unfolding moreMoved
+  moved_more : Moved (suc n) from to xs more_moved
+  unfolding more_moved
   moved_more = record {
     size = length-set before (to + n) (get_or before (from + n) 0) ∙ old.size;
     below = λ a b. other a (omega arith) ∙ old.below a b;
     above = λ a b. other a (omega arith) ∙ old.above a (omega arith);
     fresh = λ i b u. ⊎_elim (λ e. at_last i e ∙ old.below (from + n) (omega arith) ∙ source_is i e) (λ l. other (to + i) (omega arith) ∙ old.fresh i l u) (last_or i b);
     behind = λ i b u. ⊎_elim (λ e. at_last i e ∙ old.above (from + n) (omega arith) ∙ source_is i e) (λ l. other (to + i) (omega arith) ∙ old.behind i l u) (last_or i b);
-    again = λ i b u v. ⊎_elim (λ e. at_last i e ∙ sym (other (from + n) (omega arith)) ∙ ap (λ k. get_or moreMoved (from + k) 0) (sym e)) (λ l. other (to + i) (omega arith) ∙ old.again i l u v ∙ sym (other (from + i) (omega arith))) (last_or i b);
+    again = λ i b u v. ⊎_elim (λ e. at_last i e ∙ sym (other (from + n) (omega arith)) ∙ ap (λ k. get_or more_moved (from + k) 0) (sym e)) (λ l. other (to + i) (omega arith) ∙ old.again i l u v ∙ sym (other (from + i) (omega arith))) (last_or i b);
   }
 
 pub moved_stands : (n from to : ℕ) (xs : List ℕ) → to + n ≤ length xs → Moved n from to xs (moved_up n from to xs)
-unfolding moved_up moreMoved
+unfolding moved_up more_moved
 moved_stands zero from to xs h = record {
   size = refl;
   below = λ a b. refl;

@@ -57,8 +57,8 @@ module _ (r : Registers) (c : List ℕ) (lc : length c ≡ 128) where
   abbrev top : ℕ
   top = get_or (stack_of (deep r) c) 0 0
 
-  count-is : length (loads_of r.seat.loads) ≡ r.seat.loads.count
-  count-is = length_stack r.seat.loads.count (eight r.seat.loads) r.loads
+  count_is : length (loads_of r.seat.loads) ≡ r.seat.loads.count
+  count_is = length_stack r.seat.loads.count (eight r.seat.loads) r.loads
 
   pub short : (e : Fault) → deep r < 1 → e ≡ fault_of StackUnderflow (told_by r.seat) → OnCells 58 r c (Err e) r c
   short e h p = λ again a i t k s li. refused_at (acts 58 again a) (seen r i c t k s) e StackUnderflow (load_acts again a (seen r i c t k s) ∙ load_short (seen r i c t k s) (lacks_cells r i c t k s lc 1 h)) p
@@ -67,7 +67,7 @@ module _ (r : Registers) (c : List ℕ) (lc : length c ≡ 128) where
   bad b e h q g p = λ again a i t k s li.
       let m = seen r i c t k s in
       refused_at (acts 58 again a) m e BadLoad
-      (load_acts again a m ∙ load_bad m (has_cells_lem r i c t k s lc 1 h) (ap (λ y. not (eqb top 0) && ltb y 8) count-is ∙ ap (λ y. loadable y r.seat.loads.count) (sym q) ∙ g)) p
+      (load_acts again a m ∙ load_bad m (has_cells_lem r i c t k s lc 1 h) (ap (λ y. not (eqb top 0) && ltb y 8) count_is ∙ ap (λ y. loadable y r.seat.loads.count) (sym q) ∙ g)) p
 
   pub done : (r1 r2 : Registers) (b : ℕ) → 1 ≤ deep r → b ≡ top → loadable b r.seat.loads.count ≡ true → r1.shared ≡ r.shared → r1.seat ≡ from (at b) r1.seat.loads r.seat → loads_of r1.seat.loads ≡ r.seat.source.position ∷ loads_of r.seat.loads → r2.shared ≡ r1.shared → r2.seat ≡ with_cell_depth (deep r1 - 1) r1.seat → stack_of (deep r1 - 1) c ≡ drop 1 (stack_of (deep r1) c) → OnCells 58 r c (Ok tt) r2 c
   done r1 r2 b h q g u1 w1 l1 u2 w2 st = λ again a i t k s li.
@@ -76,7 +76,7 @@ module _ (r : Registers) (c : List ℕ) (lc : length c ≡ 128) where
       let w2' : r2.seat ≡ with_cell_depth (deep r - 1) (from (at b) r1.seat.loads r.seat) = w2 ∙ ap (λ (y : Seat). with_cell_depth (y.depths.cells - 1) y) w1 in
       let d : deep r1 ≡ deep r = ap (λ (y : Seat). y.depths.cells) w1 in
       let st' : stack_of (deep r - 1) c ≡ drop 1 (stack_of (deep r) c) = ap (λ y. stack_of (y - 1) c) (sym d) ∙ st ∙ ap (λ y. drop 1 (stack_of y c)) d in
-      load_acts again a m ∙ load_done m (has_cells_lem r i c t k s lc 1 h) (ap (λ y. not (eqb top 0) && ltb y 8) count-is ∙ ap (λ y. loadable y r.seat.loads.count) (sym q) ∙ g)
+      load_acts again a m ∙ load_done m (has_cells_lem r i c t k s lc 1 h) (ap (λ y. not (eqb top 0) && ltb y 8) count_is ∙ ap (λ y. loadable y r.seat.loads.count) (sym q) ∙ g)
       ∙ ap quietly (sym (
       ap (λ y. view_of y r2.seat (lent i c t k) s) (u2 ∙ u1)
       ∙ ap (λ y. view_of r.shared y (lent i c t k) s) w2'

@@ -119,22 +119,22 @@ abbrev Proper : ℕ → ℕ → Type 0
 Proper base b = (digit_of b < base) × (digit_byte (digit_of b) ≡ b)
 
 module _ (base : ℕ) (low : 2 ≤ base) (high : base ≤ 36) where
-  read-digit : (n d : ℕ) (ds : List ℕ) → d < base → value_of base n (digit_byte d ∷ ds) ≡ value_of base (n * base + d) ds
-  read-digit n d ds h =
+  read_digit : (n d : ℕ) (ds : List ℕ) → d < base → value_of base n (digit_byte d ∷ ds) ≡ value_of base (n * base + d) ds
+  read_digit n d ds h =
       let e : digit_of (digit_byte d) ≡ d = digit_back d (omega arith) in
       let t : ltb d base ≡ true = grind (arith, nat_tests) in
       ap (λ x. if ltb x base then value_of base (n * base + x) ds else None) e ∙ rw t
 
   -- the digits of n, read, are n
-  digits-back : (k n : ℕ) (ds : List ℕ) → n < k → value_of base 0 (digits_of k base n ds) ≡ value_of base n ds
-  digits-back zero n ds h = absurd (omega arith)
-  digits-back (suc k) n ds h =
+  digits_back : (k n : ℕ) (ds : List ℕ) → n < k → value_of base 0 (digits_of k base n ds) ≡ value_of base n ds
+  digits_back zero n ds h = absurd (omega arith)
+  digits_back (suc k) n ds h =
       let last = mod-lt n {m = base} (omega arith) in
       ⊎_elim
-      (λ y. rw y.0 (read-digit 0 (n % base) ds last ∙ ap (λ x. value_of base x ds) (omega (arith, mod-eq_of_lt y.1))))
+      (λ y. rw y.0 (read_digit 0 (n % base) ds last ∙ ap (λ x. value_of base x ds) (omega (arith, mod-eq_of_lt y.1))))
       (λ y. rw y.0
-      (digits-back k (n / base) (digit_byte (n % base) ∷ ds) (omega (arith, front_falls base n low (omega (arith, y.1))))
-      ∙ read-digit (n / base) (n % base) ds last ∙ ap (λ x. value_of base x ds) (div-add-mod' n base)))
+      (digits_back k (n / base) (digit_byte (n % base) ∷ ds) (omega (arith, front_falls base n low (omega (arith, y.1))))
+      ∙ read_digit (n / base) (n % base) ds last ∙ ap (λ x. value_of base x ds) (div-add-mod' n base)))
       (leb_tells (suc n) base)
 
   -- each is a digit of the base, in capitals
@@ -156,40 +156,40 @@ module _ (base : ℕ) (low : 2 ≤ base) (high : base ≤ 36) where
       (first k (n / base) (digit_byte (n % base) ∷ ds) (le-div 1 n base (omega arith) (omega (arith, y.1))) (omega (arith, front_falls base n low (omega (arith, y.1))))))
       (leb_tells (suc n) base)
 
-  some-digit : (n : ℕ) → 0 < length (unsigned_text base n)
-  some-digit n =
+  some_digit : (n : ℕ) → 0 < length (unsigned_text base n)
+  some_digit n =
       rw add-one (⊎_elim (λ y. omega (arith, one_digit n base n y.1)) (λ y. omega (arith, digit_more n base n (omega (arith, y.1)))) (leb_tells (suc n) base))
 
   are_digits : (n : ℕ) → AreDigits base (unsigned_text base n)
   are_digits n =
-      (low, high, some-digit n, All-weaker (Proper base) (λ b. digit_of b < base) (λ b p. p.0) (unsigned_text base n) (proper (n + 1) n [] tt))
+      (low, high, some_digit n, All-weaker (Proper base) (λ b. digit_of b < base) (λ b p. p.0) (unsigned_text base n) (proper (n + 1) n [] tt))
 
-  worth-back : (n : ℕ) → worth base (unsigned_text base n) ≡ n
-  worth-back n =
-      let back = digits-back (n + 1) n [] (omega arith) in
+  worth_back : (n : ℕ) → worth base (unsigned_text base n) ≡ n
+  worth_back n =
+      let back = digits_back (n + 1) n [] (omega arith) in
       ⊎_elim
       (λ y. let e : Some (0 * base ^ length (unsigned_text base n) + worth base (unsigned_text base n)) ≡ Some n = sym y.1 ∙ back in
       let f : 0 * base ^ length (unsigned_text base n) + worth base (unsigned_text base n) ≡ n = cc in omega (arith, f))
       (λ y. absurd (y.0 (are_digits n).3))
       (values base 0 (unsigned_text base n))
 
-  lone-zero : (n : ℕ) → get_or (unsigned_text base n) 0 0 ≡ 48 → length (unsigned_text base n) ≡ 1
-  lone-zero zero h = one_digit 0 base 0 (omega arith)
-  lone-zero (suc n) h = absurd (omega (arith, first (suc n + 1) (suc n) [] (omega arith) (omega arith)))
+  lone_zero : (n : ℕ) → get_or (unsigned_text base n) 0 0 ≡ 48 → length (unsigned_text base n) ≡ 1
+  lone_zero zero h = one_digit 0 base 0 (omega arith)
+  lone_zero (suc n) h = absurd (omega (arith, first (suc n + 1) (suc n) [] (omega arith) (omega arith)))
 
   -- the digits of n are the way to print it
   pub numeral : (n : ℕ) → Numeral base (unsigned_text base n) n
   numeral n =
-      (are_digits n, worth-back n, All-weaker (Proper base) (λ b. digit_byte (digit_of b) ≡ b) (λ b p. p.1) (unsigned_text base n) (proper (n + 1) n [] tt), lone-zero n)
+      (are_digits n, worth_back n, All-weaker (Proper base) (λ b. digit_byte (digit_of b) ≡ b) (λ b p. p.1) (unsigned_text base n) (proper (n + 1) n [] tt), lone_zero n)
 
   pub unsigned_back : (n : ℕ) → n < 65536 → number_in base (unsigned_text base n) ≡ Some n
-  unsigned_back n h = plain_number base n (unsigned_text base n) (are_digits n) (worth-back n) (omega arith)
+  unsigned_back n h = plain_number base n (unsigned_text base n) (are_digits n) (worth_back n) (omega arith)
 
   pub signed_back : (n : ℕ) → n < 65536 → number_in base (signed_text base n) ≡ Some n
   signed_back n h =
       let w = 65536 - n in
       ⊎_elim
-      (λ y. rw y.0 (minus_number base w (unsigned_text base w) (are_digits w) (worth-back w) (omega (arith, y.1)) ∙ ap Some (omega (arith, y.1))))
+      (λ y. rw y.0 (minus_number base w (unsigned_text base w) (are_digits w) (worth_back w) (omega (arith, y.1)) ∙ ap Some (omega (arith, y.1))))
       (λ y. rw y.0 (unsigned_back n h))
       (leb_tells 32768 n)
 

@@ -26,7 +26,7 @@ pub store_acts : Acts 35 (Kernel.stores 2)
 unfolding perform
 store_acts again a m = refl
 
-pub add_acts : Acts 36 Kernel.addTo
+pub add_acts : Acts 36 Kernel.add_to
 unfolding perform
 add_acts again a m = refl
 
@@ -51,7 +51,7 @@ abbrev pub takes_of : SpaceWord → ℕ
 takes_of (Kernel.fetches n) = 1
 takes_of (Kernel.stores n) = 2
 takes_of (Kernel.appends n) = 1
-takes_of Kernel.addTo = 2
+takes_of Kernel.add_to = 2
 takes_of Kernel.move = 3
 takes_of Kernel.fill = 3
 takes_of Kernel.allot = 1
@@ -61,7 +61,7 @@ pub short : (w : SpaceWord) (m : Machine) → 0 < takes_of w → has_cells (take
 short (Kernel.fetches n) m b h = rw h
 short (Kernel.stores n) m b h = rw h
 short (Kernel.appends n) m b h = rw h
-short Kernel.addTo m b h = rw h
+short Kernel.add_to m b h = rw h
 short Kernel.move m b h = rw h
 short Kernel.fill m b h = rw h
 short Kernel.allot m b h = rw h
@@ -74,7 +74,7 @@ fetch_far n m h k = rw (h, k)
 pub store_far : (n : ℕ) (m : Machine) → has_cells 2 m ≡ true → in_reach (nth 0 m) n m ≡ false → do_space (Kernel.stores n) m ≡ refused OutOfReach m
 store_far n m h k = rw (h, k)
 
-pub add_far : (m : Machine) → has_cells 2 m ≡ true → in_reach (nth 0 m) 2 m ≡ false → do_space Kernel.addTo m ≡ refused OutOfReach m
+pub add_far : (m : Machine) → has_cells 2 m ≡ true → in_reach (nth 0 m) 2 m ≡ false → do_space Kernel.add_to m ≡ refused OutOfReach m
 add_far m h k = rw (h, k)
 
 pub fill_far : (m : Machine) → has_cells 3 m ≡ true → in_reach (nth 2 m) (nth 1 m) m ≡ false → do_space Kernel.fill m ≡ refused OutOfReach m
@@ -101,7 +101,7 @@ pub byte_stored : (m : Machine) → has_cells 2 m ≡ true → in_reach (nth 0 m
 unfolding overwritten cell
 byte_stored m h k = rw (h, k)
 
-pub added : (m : Machine) → has_cells 2 m ≡ true → in_reach (nth 0 m) 2 m ≡ true → do_space Kernel.addTo m ≡ quietly (with_high (overwritten (nth 0 m - 32768) (cell (wrap (cell_at m.high (nth 0 m - 32768) + nth 1 m))) m.high) (popped 2 m))
+pub added : (m : Machine) → has_cells 2 m ≡ true → in_reach (nth 0 m) 2 m ≡ true → do_space Kernel.add_to m ≡ quietly (with_high (overwritten (nth 0 m - 32768) (cell (wrap (cell_at m.high (nth 0 m - 32768) + nth 1 m))) m.high) (popped 2 m))
 unfolding overwritten
 added m h k = rw (h, k)
 

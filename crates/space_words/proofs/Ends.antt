@@ -65,7 +65,7 @@ module _ (r : Registers) (i c : List ℕ) (li : length i ≡ 65536) (lc : length
   pub add_too_far : (a : ℕ) (e : Fault) → 2 ≤ deep r → a ≡ top r c 0 → reachable a 2 r.shared.ends.here ≡ false → e ≡ fault_of OutOfReach (told_by r.seat) → OnSpace 36 r i c (Err e) r i c
   add_too_far a e h p q g =
       let q' : reachable (top r c 0) 2 r.shared.ends.here ≡ false = rw p at q in
-      space_refused 36 Kernel.addTo add_acts r i c e OutOfReach (λ t k s. add_far (seen r i c t k s) (has_cells_lem r i c t k s lc 2 h) (reach_is r i c t k s li _ 2 false q')) g
+      space_refused 36 Kernel.add_to add_acts r i c e OutOfReach (λ t k s. add_far (seen r i c t k s) (has_cells_lem r i c t k s lc 2 h) (reach_is r i c t k s li _ 2 false q')) g
 
   pub fill_too_far : (a n : ℕ) (e : Fault) → 3 ≤ deep r → a ≡ top r c 2 → n ≡ top r c 1 → reachable a n r.shared.ends.here ≡ false → e ≡ fault_of OutOfReach (told_by r.seat) → OnSpace 40 r i c (Err e) r i c
   fill_too_far a n e h p u q g =
@@ -83,8 +83,8 @@ module _ (r : Registers) (i c : List ℕ) (li : length i ≡ 65536) (lc : length
       ∙ rw (has_room_lem r i c t k s lc 1 1 h (omega (arith, r.cells))) (ap quietly (sym (cells_view r r' i c c' t k s _ _ u g e)))
 
   -- new bytes in their place
-  stored-done : (v : ℕ) (w : SpaceWord) → Acts v w → (r' : Registers) (i' : List ℕ) (n a : ℕ) (new : List ℕ) → reachable a (length new) r.shared.ends.here ≡ true → i' ≡ overwritten a new i → Released r r' c n → ((t : List ℕ) (k : List Mark) (s : Meaning) → do_space w (seen r i c t k s) ≡ quietly (with_high (overwritten (a - 32768) new (high_of r.shared.ends.here i)) (with_cells (drop n (stack_of (deep r) c)) (seen r i c t k s)))) → OnSpace v r i c (Ok tt) r' i' c × (take 256 i' ≡ take 256 i)
-  stored-done v w z r' i' n a new q e f h =
+  stored_done : (v : ℕ) (w : SpaceWord) → Acts v w → (r' : Registers) (i' : List ℕ) (n a : ℕ) (new : List ℕ) → reachable a (length new) r.shared.ends.here ≡ true → i' ≡ overwritten a new i → Released r r' c n → ((t : List ℕ) (k : List Mark) (s : Meaning) → do_space w (seen r i c t k s) ≡ quietly (with_high (overwritten (a - 32768) new (high_of r.shared.ends.here i)) (with_cells (drop n (stack_of (deep r) c)) (seen r i c t k s)))) → OnSpace v r i c (Ok tt) r' i' c × (take 256 i' ≡ take 256 i)
+  stored_done v w z r' i' n a new q e f h =
       let g = overwrote r i i' a new li q e in
       ((λ again b t k s. z again b (seen r i c t k s) ∙ h t k s ∙ ap quietly (sym (space_view r r' i i' c c t k s (deep r - n) _ _ f.shared f.seat f.stack g))), g.below)
 
@@ -93,21 +93,21 @@ module _ (r : Registers) (i c : List ℕ) (li : length i ≡ 65536) (lc : length
   store_done r' i' a x h p u q e f =
       let q' : reachable (top r c 0) 2 r.shared.ends.here ≡ true = rw p at q in
       let e' : i' ≡ overwritten (top r c 0) (cell (top r c 1)) i = rw (p, u) at e in
-      stored-done 35 (Kernel.stores 2) store_acts r' i' 2 (top r c 0) (cell (top r c 1)) q' e' f
+      stored_done 35 (Kernel.stores 2) store_acts r' i' 2 (top r c 0) (cell (top r c 1)) q' e' f
       (λ t k s. stored (seen r i c t k s) (has_cells_lem r i c t k s lc 2 h) (reach_is r i c t k s li _ 2 true q'))
 
   pub store_byte_done : (r' : Registers) (i' : List ℕ) (a x : ℕ) → 2 ≤ deep r → a ≡ top r c 0 → x ≡ top r c 1 % 256 → reachable a 1 r.shared.ends.here ≡ true → i' ≡ overwritten a (replicate 1 x) i → Released r r' c 2 → OnSpace 38 r i c (Ok tt) r' i' c × (take 256 i' ≡ take 256 i)
   store_byte_done r' i' a x h p u q e f =
       let q' : reachable (top r c 0) 1 r.shared.ends.here ≡ true = rw p at q in
       let e' : i' ≡ overwritten (top r c 0) (replicate 1 (top r c 1 % 256)) i = rw (p, u) at e in
-      stored-done 38 (Kernel.stores 1) store_byte_acts r' i' 2 (top r c 0) (replicate 1 (top r c 1 % 256)) q' e' f
+      stored_done 38 (Kernel.stores 1) store_byte_acts r' i' 2 (top r c 0) (replicate 1 (top r c 1 % 256)) q' e' f
       (λ t k s. byte_stored (seen r i c t k s) (has_cells_lem r i c t k s lc 2 h) (reach_is r i c t k s li _ 1 true q'))
 
   pub fill_done : (r' : Registers) (i' : List ℕ) (a n x : ℕ) → 3 ≤ deep r → a ≡ top r c 2 → n ≡ top r c 1 → x ≡ top r c 0 % 256 → reachable a n r.shared.ends.here ≡ true → i' ≡ overwritten a (replicate n x) i → Released r r' c 3 → OnSpace 40 r i c (Ok tt) r' i' c × (take 256 i' ≡ take 256 i)
   fill_done r' i' a n x h p u v q e f =
       let q' : reachable (top r c 2) (top r c 1) r.shared.ends.here ≡ true = rw (p, u) at q in
       let e' : i' ≡ overwritten (top r c 2) (replicate (top r c 1) (top r c 0 % 256)) i = rw (p, u, v) at e in
-      stored-done 40 Kernel.fill fill_acts r' i' 3 (top r c 2) (replicate (top r c 1) (top r c 0 % 256)) (ap (λ y. reachable (top r c 2) y r.shared.ends.here) (length-replicate (top r c 1) (top r c 0 % 256)) ∙ q') e' f
+      stored_done 40 Kernel.fill fill_acts r' i' 3 (top r c 2) (replicate (top r c 1) (top r c 0 % 256)) (ap (λ y. reachable (top r c 2) y r.shared.ends.here) (length-replicate (top r c 1) (top r c 0 % 256)) ∙ q') e' f
       (λ t k s. filled (seen r i c t k s) (has_cells_lem r i c t k s lc 3 h) (reach_is r i c t k s li (top r c 2) (top r c 1) true q'))
 
   pub add_done : (r' : Registers) (i' : List ℕ) (a x old : ℕ) → 2 ≤ deep r → a ≡ top r c 0 → x ≡ top r c 1 → reachable a 2 r.shared.ends.here ≡ true → old ≡ cell_at i a → i' ≡ overwritten a (cell (wrap (old + x))) i → Released r r' c 2 → OnSpace 36 r i c (Ok tt) r' i' c × (take 256 i' ≡ take 256 i)
@@ -118,7 +118,7 @@ module _ (r : Registers) (i c : List ℕ) (li : length i ≡ 65536) (lc : length
       let o' : old ≡ cell_at (high_of r.shared.ends.here i) (top r c 0 - 32768) = o ∙ ap (cell_at i) p ∙ sym (cell_high r.shared.ends.here i (top r c 0) w.0 (omega (arith, w.1))) in
       let new = cell (wrap (cell_at (high_of r.shared.ends.here i) (top r c 0 - 32768) + top r c 1)) in
       let e' : i' ≡ overwritten (top r c 0) new i = e ∙ ap (λ y. overwritten y (cell (wrap (old + x))) i) p ∙ ap (λ y. overwritten (top r c 0) (cell (wrap (y + x))) i) o' ∙ ap (λ y. overwritten (top r c 0) (cell (wrap (cell_at (high_of r.shared.ends.here i) (top r c 0 - 32768) + y))) i) u in
-      stored-done 36 Kernel.addTo add_acts r' i' 2 (top r c 0) new q' e' f
+      stored_done 36 Kernel.add_to add_acts r' i' 2 (top r c 0) new q' e' f
       (λ t k s. added (seen r i c t k s) (has_cells_lem r i c t k s lc 2 h) (reach_is r i c t k s li _ 2 true q'))
 
   pub fetch_byte_done : (r' : Registers) (c' : List ℕ) (a x : ℕ) → 1 ≤ deep r → a ≡ top r c 0 → reachable a 1 r.shared.ends.here ≡ true → x ≡ get_or i a 0 → r'.shared ≡ r.shared → r'.seat ≡ with_cell_depth (deep r - 1 + 1) r.seat → stack_of (deep r - 1 + 1) c' ≡ x ∷ drop 1 (stack_of (deep r) c) → OnSpace 37 r i c (Ok tt) r' i c'

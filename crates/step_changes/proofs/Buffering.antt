@@ -49,23 +49,23 @@ with_reading m s p w ls h k = with_text_lem m s _ (record { line = s.text.line; 
 
 -- a store with a block replaced
 module _ (s : Meaning) (k : StoreHolds s) (n : ℕ) (new : List ℕ) (b : Bytes new) (l : length new ≡ 1024) where
-  replaced-long : (i : ℕ) → i < s.count → (i ≡ n) ⊎ (i ≡ n → ⊥) → length (block (written s n new) i) ≡ 1024
-  replaced-long i h (inl e) = subst (λ j. length (get_or (set s.blocks n new) j []) ≡ 1024) (sym e) (ap length (get_or-set_same s.blocks n new [] (omega (arith, k.sound.counted))) ∙ l)
-  replaced-long i h (inr e) = ap length (get_or-set_other s.blocks n i new [] e) ∙ k.sound.whole i h
+  replaced_long : (i : ℕ) → i < s.count → (i ≡ n) ⊎ (i ≡ n → ⊥) → length (block (written s n new) i) ≡ 1024
+  replaced_long i h (inl e) = subst (λ j. length (get_or (set s.blocks n new) j []) ≡ 1024) (sym e) (ap length (get_or-set_same s.blocks n new [] (omega (arith, k.sound.counted))) ∙ l)
+  replaced_long i h (inr e) = ap length (get_or-set_other s.blocks n i new [] e) ∙ k.sound.whole i h
 
-  replaced-bytes : (i : ℕ) → (i ≡ n) ⊎ (i ≡ n → ⊥) → (n < length s.blocks) ⊎ (length s.blocks ≤ n) → Bytes (block (written s n new) i)
-  replaced-bytes i (inl e) (inl h) = subst (λ j. Bytes (get_or (set s.blocks n new) j [])) (sym e) (subst Bytes (sym (get_or-set_same s.blocks n new [] h)) b)
-  replaced-bytes i (inl e) (inr h) = subst (λ xs. Bytes (get_or xs i [])) (sym (set_past s.blocks n new h)) (k.bytes i)
-  replaced-bytes i (inr e) h = subst Bytes (sym (get_or-set_other s.blocks n i new [] e)) (k.bytes i)
+  replaced_bytes : (i : ℕ) → (i ≡ n) ⊎ (i ≡ n → ⊥) → (n < length s.blocks) ⊎ (length s.blocks ≤ n) → Bytes (block (written s n new) i)
+  replaced_bytes i (inl e) (inl h) = subst (λ j. Bytes (get_or (set s.blocks n new) j [])) (sym e) (subst Bytes (sym (get_or-set_same s.blocks n new [] h)) b)
+  replaced_bytes i (inl e) (inr h) = subst (λ xs. Bytes (get_or xs i [])) (sym (set_past s.blocks n new h)) (k.bytes i)
+  replaced_bytes i (inr e) h = subst Bytes (sym (get_or-set_other s.blocks n i new [] e)) (k.bytes i)
 
   pub written_holds : StoreHolds (written s n new)
   written_holds = record {
     sound = record {
       few = k.sound.few;
       counted = length-set s.blocks n new ∙ k.sound.counted;
-      whole = λ i h. replaced-long i h (cases_eq i n);
+      whole = λ i h. replaced_long i h (cases_eq i n);
     };
-    bytes = λ i. replaced-bytes i (cases_eq i n) (cases_lt n (length s.blocks));
+    bytes = λ i. replaced_bytes i (cases_eq i n) (cases_lt n (length s.blocks));
   }
 
 module _ (m : Machine) (s : Steady m) where
@@ -87,10 +87,11 @@ module _ (m : Machine) (s : Steady m) where
   held_keeps None = (s, refl)
   held_keeps (Some n) = written_keeps n
 
-  saved-keeps : Gives (Kept m) (saved m)
-  saved-keeps = gives_if (Kept m) m.buffer.updated _ _ (λ h. held_keeps m.buffer.held) (λ h. (s, refl))
+  saved_keeps : Gives (Kept m) (saved m)
+  saved_keeps = gives_if (Kept m) m.buffer.updated _ _ (λ h. held_keeps m.buffer.held) (λ h. (s, refl))
 
   read_keeps : (n : ℕ) → Gives (Kept m) (read_from n m)
+  unfolding overwritten
   read_keeps n =
       gives_ask _ _ _ (ltb n m.store.count) _ (λ h.
       let l = s.store.sound.whole n (ltb-true n m.store.count h) in
@@ -102,7 +103,7 @@ module _ (m : Machine) (s : Steady m) where
 pub brought_keeps : (m : Machine) → Steady m → (n : ℕ) → Gives (Kept m) (brought n m)
 brought_keeps m s n =
     gives_if (Kept m) (is_held n m) _ _ (λ h. (s, refl))
-    (λ h. gives_on (Kept m) (Kept m) (saved m) (read_from n) (saved-keeps m s) (λ m' k. onward m' k (read_from n m') (read_keeps m' k.0 n)))
+    (λ h. gives_on (Kept m) (Kept m) (saved m) (read_from n) (saved_keeps m s) (λ m' k. onward m' k (read_from n m') (read_keeps m' k.0 n)))
   where
     onward : (m' : Machine) → Kept m m' → (a : Asked Machine) → Gives (Kept m') a → Gives (Kept m) a
     onward m' k (refused why x) g = tt
@@ -112,21 +113,21 @@ pub bringing_leads : (m : Machine) → Steady m → Leads (dict_of m) (bringing 
 bringing_leads m s = leads_given (dict_of m) (Kept m) (brought (blk m) m) quietly (brought_keeps m s (blk m)) (λ m' k. kept_quiet m m' k)
 
 module _ (m : Machine) (s : Steady m) where
-  update-leads : (h : Option ℕ) → Leads (dict_of m) (elim h [ None ↦ quietly m | Some n ↦ (ask m NotWritable m.store.writable >> quietly (with_blocks (Some n) true m.store m)) ])
-  update-leads None = (stays, s)
-  update-leads (Some n) = leads_ask _ _ _ m.store.writable _ (λ h. stayed (with_blocks (Some n) true m.store m) stays (with_store_lem m s (Some n) true m.store s.store))
+  update_leads : (h : Option ℕ) → Leads (dict_of m) (elim h [ None ↦ quietly m | Some n ↦ (ask m NotWritable m.store.writable >> quietly (with_blocks (Some n) true m.store m)) ])
+  update_leads None = (stays, s)
+  update_leads (Some n) = leads_ask _ _ _ m.store.writable _ (λ h. stayed (with_blocks (Some n) true m.store m) stays (with_store_lem m s (Some n) true m.store s.store))
 
-  pushed-keeps : (m' : Machine) → Kept m m' → Kept m (pushed 33024 (popped 1 m'))
-  pushed-keeps m' k =
+  pushed_keeps : (m' : Machine) → Kept m m' → Kept m (pushed 33024 (popped 1 m'))
+  pushed_keeps m' k =
       let xs = m'.stacks.cells in
       (with_cells_lem m' k.0 (33024 ∷ drop 1 xs) (omega arith, All-drop (λ x. x < 65536) 1 xs k.0.stacks.cells) (simp length-drop (omega (arith, k.0.stacks.depth))), k.1)
 
   pub blocks_lead : (w : BlocksWord) → Leads (dict_of m) (do_blocks w m)
   blocks_lead Kernel.block =
-      leads_ask _ _ _ (has_cells 1 m) _ (λ h. leads_given (dict_of m) (Kept m) (brought (nth 0 m) m) (λ m'. quietly (pushed 33024 (popped 1 m'))) (brought_keeps m s (nth 0 m)) (λ m' k. kept_quiet m (pushed 33024 (popped 1 m')) (pushed-keeps m' k)))
-  blocks_lead Kernel.update = update-leads m.buffer.held
+      leads_ask _ _ _ (has_cells 1 m) _ (λ h. leads_given (dict_of m) (Kept m) (brought (nth 0 m) m) (λ m'. quietly (pushed 33024 (popped 1 m'))) (brought_keeps m s (nth 0 m)) (λ m' k. kept_quiet m (pushed 33024 (popped 1 m')) (pushed_keeps m' k)))
+  blocks_lead Kernel.update = update_leads m.buffer.held
   blocks_lead Kernel.flush =
-      leads_given (dict_of m) (Kept m) (saved m) (λ m'. quietly (with_blocks None false m'.store m')) (saved-keeps m s) (λ m' k. kept_quiet m (with_blocks None false m'.store m') (with_store_lem m' k.0 None false m'.store k.0.store, k.1))
+      leads_given (dict_of m) (Kept m) (saved m) (λ m'. quietly (with_blocks None false m'.store m')) (saved_keeps m s) (λ m' k. kept_quiet m (with_blocks None false m'.store m') (with_store_lem m' k.0 None false m'.store k.0.store, k.1))
   blocks_lead Kernel.load =
       let w = m.text.source in
       leads_ask _ _ _ (has_cells 1 m) _ (λ h. leads_ask _ _ _ (not (eqb (nth 0 m) 0) && ltb (length m.text.loads) 8) _ (λ g.

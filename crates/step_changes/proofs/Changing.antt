@@ -10,7 +10,7 @@ use Rattle.entries.proofs.Walks.{first_above}
 use Rattle.dictionary.specs.Dict.{Dict, dp, appended, patched}
 use Rattle.kernel.specs.Boot.{boot_dict}
 use Rattle.forgetting.specs.Changes.{append, patch}
-use Rattle.forgetting.specs.Changes.{changed as changedBy}
+use Rattle.forgetting.specs.Changes.{changed as changed_by}
 use Rattle.forgetting.specs.Law as law
 use Rattle.forgetting.specs.Law.{Run}
 use Rattle.forgetting.proofs.CellLaws.{length-set_cell, at_other}
@@ -93,14 +93,14 @@ unfolding first_at
 same_first low new e h = ap (λ b. e + 5 + Prim.Native.Nat.◌%◌ b 32) h
 
 module _ (D : Dict) (r : Run boot_dict D) (o : D.opened ≢ 0) where
-  count-below : D.opened + 2 < dp D
-  count-below = omega (arith, (known D r).first o, first_above D.low D.opened)
+  count_below : D.opened + 2 < dp D
+  count_below = omega (arith, (known D r).first o, first_above D.low D.opened)
 
   pub grown_append : (bs : List ℕ) → Grown D (appended bs D)
   grown_append bs = record {
     here = refl;
     opened = refl;
-    first = same_first D.low (D.low ++ bs) D.opened (get_or_append_left D.low bs 0 (D.opened + 2) count-below);
+    first = same_first D.low (D.low ++ bs) D.opened (get_or_append_left D.low bs 0 (D.opened + 2) count_below);
     longer = simp length-append (omega arith);
   }
 
@@ -120,11 +120,11 @@ pub grown_patchable : {D E : Dict} → Grown D E → (a : ℕ) → Patchable D a
 grown_patchable g a p = (omega (arith, g.first, p.0), omega (arith, g.longer, p.1))
 
 pub appended_quietly : (D : Dict) → Run boot_dict D → D.opened ≢ 0 → (bs : List ℕ) → Bytes bs → dp D + length bs ≤ 32768 → Quietly D (appended bs D)
-unfolding changedBy
+unfolding changed_by
 appended_quietly D r o bs b h = and_then (append bs) stays (record { is_open = o; room = h; whole = b }) tt
 
 pub resolved_quietly : (known-cells : List ℕ) (D : Dict) → Run boot_dict D → D.opened ≢ 0 → All (Patchable D) known-cells → Quietly D (resolved known-cells D) × Grown D (resolved known-cells D)
-unfolding changedBy
+unfolding changed_by
 resolved_quietly [] D r o p = (stays, record { here = refl; opened = refl; first = refl; longer = omega arith })
 resolved_quietly (a ∷ rest) D r o p =
     let g = grown_patch D r o a (dp D) p.0.0 in

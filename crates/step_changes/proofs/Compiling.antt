@@ -26,7 +26,7 @@ use Rattle.step_changes.proofs.Known.{known}
 use Rattle.step_changes.proofs.Ranges.{bytes_none, bytes_more, bytes_cell, length-cell}
 use Rattle.step_changes.proofs.Leading.{Leads, leads_ask, nth_cell, with_popped}
 use Rattle.step_changes.proofs.Changing.{change_leads, with_compiling_lem, grown_open, grown_append, Patchable, appended_quietly, resolved_quietly, append_leads, run_quietly, quietly_then, grown_then}
-use Rattle.step_changes.proofs.Restated.{kind_number, are_marks, mark, mark_at, resolved, are_cells, structured}
+use Rattle.step_changes.proofs.Restated.{kind_number, are_marks, mark, mark_at, resolved, structured}
 
 -- the marks that a word takes lie in the open entry
 
@@ -63,19 +63,19 @@ marks_inside D (k ∷ ks) (x ∷ ms) h a (suc i) l = marks_inside D ks ms (and_p
 abbrev pub Given : Machine → CompilingWord → ℕ → List ℕ → Type 0
 Given m (Kernel.compiles b) e text = Unit {0}
 Given m Kernel.literal e text = Unit {0}
-Given m Kernel.bracketTick e text = token_of m.low e < 65536
-Given m Kernel.bracketCompile e text = token_of m.low e < 65536
+Given m Kernel.bracket_tick e text = token_of m.low e < 65536
+Given m Kernel.bracket_compile e text = token_of m.low e < 65536
 Given m Kernel.does e text = Unit {0}
-Given m Kernel.ifC e text = Unit {0}
-Given m Kernel.elseC e text = Unit {0}
-Given m Kernel.thenC e text = Unit {0}
-Given m Kernel.beginC e text = Unit {0}
-Given m Kernel.whileC e text = Unit {0}
-Given m Kernel.repeatC e text = Unit {0}
-Given m Kernel.untilC e text = Unit {0}
-Given m Kernel.doC e text = Unit {0}
+Given m Kernel.if_c e text = Unit {0}
+Given m Kernel.else_c e text = Unit {0}
+Given m Kernel.then_c e text = Unit {0}
+Given m Kernel.begin_c e text = Unit {0}
+Given m Kernel.while_c e text = Unit {0}
+Given m Kernel.repeat_c e text = Unit {0}
+Given m Kernel.until_c e text = Unit {0}
+Given m Kernel.do_c e text = Unit {0}
 Given m (Kernel.loop_c n) e text = kernel_token n < 65536
-Given m Kernel.quoteC e text = (length text ≤ 255) × Bytes text
+Given m Kernel.quote_c e text = (length text ≤ 255) × Bytes text
 
 two_cells_lem : (x y : ℕ) → length (cell x ++ cell y) ≡ 4
 two_cells_lem x y = length-append (cell x) (cell y) ∙ (omega (arith, length-cell x, length-cell y))
@@ -87,13 +87,13 @@ abbrev MarkInside : Dict → Mark → Type 0
 MarkInside D k = Inside D k.kind k.address
 
 module _ (m : Machine) (s : Steady m) (o : m.names.opened ≢ 0) where
-  structured-leads : (kinds : List Kind) (bs cells : List ℕ) (new : List Mark) → Bytes bs
+  structured_leads : (kinds : List Kind) (bs cells : List ℕ) (new : List Mark) → Bytes bs
       → (are_marks kinds m.stacks.marks ≡ true → All (Patchable (appended bs (dict_of m))) cells × All (MarkInside (appended bs (dict_of m))) new) → Leads (dict_of m) (structured kinds bs cells new m)
-  structured-leads kinds bs cells new b p =
+  structured_leads kinds bs cells new b p =
       let ms = m.stacks.marks in
       let D = dict_of m in
       let left = new ++ drop (length kinds) ms in
-      leads_ask _ _ _ (are_marks kinds ms) _ (λ h. leads_ask _ _ _ (are_cells cells m) _ (λ j. leads_ask _ _ _ (leb (length left) 32) _ (λ i. leads_ask _ _ _ (fits (length bs) m) _ (λ f.
+      leads_ask _ _ _ (are_marks kinds ms) _ (λ h. leads_ask _ _ _ (leb (length left) 32) _ (λ i. leads_ask _ _ _ (fits (length bs) m) _ (λ f.
       let q = appended_quietly D s.came o bs b (leb-true _ 32768 f) in
       let g = grown_append D s.came o bs in
       let r = resolved_quietly cells (appended bs D) (run_quietly s.came q) o (p h).0 in
@@ -102,52 +102,52 @@ module _ (m : Machine) (s : Steady m) (o : m.names.opened ≢ 0) where
       change_leads m s (λ D. resolved cells (appended bs D)) left gone.here (quietly_then q r.0) (λ c z. o (sym gone.opened ∙ z))
       (All-append (InOpen E) new (drop (length kinds) ms)
       (All-weaker (MarkInside (appended bs D)) (InOpen E) (λ k i. grown_open r.1 k (record { is_open = o; above = i.0; below = i.1 })) new (p h).1)
-      (All-weaker (InOpen D) (InOpen E) (grown_open gone) (drop (length kinds) ms) (All-drop (InOpen D) (length kinds) ms s.marks)))))))
+      (All-weaker (InOpen D) (InOpen E) (grown_open gone) (drop (length kinds) ms) (All-drop (InOpen D) (length kinds) ms s.marks))))))
 
   -- the mark that a word leaves at its branch cell
-  new-mark : (x y : ℕ) → (first_at (appended (cell x ++ cell y) (dict_of m)).low m.names.opened + 2 ≤ machine.dp m + 2) × (machine.dp m + 2 + 2 ≤ dp (appended (cell x ++ cell y) (dict_of m)))
-  new-mark x y =
+  new_mark : (x y : ℕ) → (first_at (appended (cell x ++ cell y) (dict_of m)).low m.names.opened + 2 ≤ machine.dp m + 2) × (machine.dp m + 2 + 2 ≤ dp (appended (cell x ++ cell y) (dict_of m)))
+  new_mark x y =
       let g = grown_append (dict_of m) s.came o (cell x ++ cell y) in
       (omega (arith, g.first, (known (dict_of m) s.came).first o), omega (arith, length-append m.low (cell x ++ cell y), two_cells_lem x y))
 
-  old-mark : (bs : List ℕ) (kinds : List Kind) (i : ℕ) → i < length kinds → are_marks kinds m.stacks.marks ≡ true → Inside (appended bs (dict_of m)) (get_or kinds i If) (mark_at i m)
-  old-mark bs kinds i l h =
+  old_mark : (bs : List ℕ) (kinds : List Kind) (i : ℕ) → i < length kinds → are_marks kinds m.stacks.marks ≡ true → Inside (appended bs (dict_of m)) (get_or kinds i If) (mark_at i m)
+  old_mark bs kinds i l h =
       let g = grown_append (dict_of m) s.came o bs in
       let p = marks_inside (dict_of m) kinds m.stacks.marks h s.marks i l in
       (omega (arith, g.first, p.0), omega (arith, g.longer, p.1))
 
-  mark-low : (i : ℕ) → mark_at i m ≤ 32768
-  mark-low i = Rattle.step_changes.proofs.Ranges.all_or (λ k. k.address ≤ 32768) m.stacks.marks i (mark If 0) (omega arith)
+  mark_low : (i : ℕ) → mark_at i m ≤ 32768
+  mark_low i = Rattle.step_changes.proofs.Ranges.all_or (λ k. k.address ≤ 32768) m.stacks.marks i (mark If 0) (omega arith)
       (All-weaker (InOpen (dict_of m)) (λ k. k.address ≤ 32768) (λ k p. omega (arith, p.below, (known (dict_of m) s.came).room)) m.stacks.marks s.marks)
 
   pub compiling_leads : (w : CompilingWord) (e : ℕ) (text : List ℕ) → Given m w e text → Leads (dict_of m) (do_compiling w e text m)
   compiling_leads (Kernel.compiles b) e text k = (stays, with_compiling_lem m s b (λ h. o))
   compiling_leads Kernel.literal e text k =
       leads_ask _ _ _ (has_cells 1 m) _ (λ h. append_leads (popped 1 m) (with_popped m s 1) o (literal_of (nth 0 m)) (two_bytes (kernel_token 98) (nth 0 m) (lit< tt) (nth_cell m s 0)))
-  compiling_leads Kernel.bracketTick e text k = append_leads m s o (literal_of (token_of m.low e)) (two_bytes (kernel_token 98) _ (lit< tt) k)
-  compiling_leads Kernel.bracketCompile e text k = append_leads m s o (cell (token_of m.low e)) (bytes_cell _ k)
+  compiling_leads Kernel.bracket_tick e text k = append_leads m s o (literal_of (token_of m.low e)) (two_bytes (kernel_token 98) _ (lit< tt) k)
+  compiling_leads Kernel.bracket_compile e text k = append_leads m s o (cell (token_of m.low e)) (bytes_cell _ k)
   compiling_leads Kernel.does e text k = append_leads m s o (token 104) (bytes_cell (kernel_token 104) (lit< tt))
-  compiling_leads Kernel.ifC e text k =
-      structured-leads [] (token 100 ++ cell 0) [] (mark If (machine.dp m + 2) ∷ []) (two_bytes (kernel_token 100) 0 (lit< tt) (lit< tt)) (λ h. (tt, (new-mark (kernel_token 100) 0, tt)))
-  compiling_leads Kernel.elseC e text k =
+  compiling_leads Kernel.if_c e text k =
+      structured_leads [] (token 100 ++ cell 0) [] (mark If (machine.dp m + 2) ∷ []) (two_bytes (kernel_token 100) 0 (lit< tt) (lit< tt)) (λ h. (tt, (new_mark (kernel_token 100) 0, tt)))
+  compiling_leads Kernel.else_c e text k =
       let bs = token 99 ++ cell 0 in
-      structured-leads (If ∷ []) bs (mark_at 0 m ∷ []) (mark If (machine.dp m + 2) ∷ []) (two_bytes (kernel_token 99) 0 (lit< tt) (lit< tt)) (λ h. ((old-mark bs (If ∷ []) 0 (lit< tt) h, tt), (new-mark (kernel_token 99) 0, tt)))
-  compiling_leads Kernel.thenC e text k = structured-leads (If ∷ []) [] (mark_at 0 m ∷ []) [] bytes_none (λ h. ((old-mark [] (If ∷ []) 0 (lit< tt) h, tt), tt))
-  compiling_leads Kernel.beginC e text k =
+      structured_leads (If ∷ []) bs (mark_at 0 m ∷ []) (mark If (machine.dp m + 2) ∷ []) (two_bytes (kernel_token 99) 0 (lit< tt) (lit< tt)) (λ h. ((old_mark bs (If ∷ []) 0 (lit< tt) h, tt), (new_mark (kernel_token 99) 0, tt)))
+  compiling_leads Kernel.then_c e text k = structured_leads (If ∷ []) [] (mark_at 0 m ∷ []) [] bytes_none (λ h. ((old_mark [] (If ∷ []) 0 (lit< tt) h, tt), tt))
+  compiling_leads Kernel.begin_c e text k =
       let g = grown_append (dict_of m) s.came o [] in
-      structured-leads [] [] [] (mark Begin (machine.dp m) ∷ []) bytes_none (λ h. (tt, ((omega (arith, g.first, (known (dict_of m) s.came).first o), omega (arith, g.longer)), tt)))
-  compiling_leads Kernel.whileC e text k =
+      structured_leads [] [] [] (mark Begin (machine.dp m) ∷ []) bytes_none (λ h. (tt, ((omega (arith, g.first, (known (dict_of m) s.came).first o), omega (arith, g.longer)), tt)))
+  compiling_leads Kernel.while_c e text k =
       let bs = token 100 ++ cell 0 in
-      structured-leads (Begin ∷ []) bs [] (mark While (machine.dp m + 2) ∷ mark Begin (mark_at 0 m) ∷ []) (two_bytes (kernel_token 100) 0 (lit< tt) (lit< tt)) (λ h. (tt, (new-mark (kernel_token 100) 0, (old-mark bs (Begin ∷ []) 0 (lit< tt) h, tt))))
-  compiling_leads Kernel.repeatC e text k =
+      structured_leads (Begin ∷ []) bs [] (mark While (machine.dp m + 2) ∷ mark Begin (mark_at 0 m) ∷ []) (two_bytes (kernel_token 100) 0 (lit< tt) (lit< tt)) (λ h. (tt, (new_mark (kernel_token 100) 0, (old_mark bs (Begin ∷ []) 0 (lit< tt) h, tt))))
+  compiling_leads Kernel.repeat_c e text k =
       let bs = token 99 ++ cell (mark_at 1 m) in
-      structured-leads (While ∷ Begin ∷ []) bs (mark_at 0 m ∷ []) [] (two_bytes (kernel_token 99) (mark_at 1 m) (lit< tt) (omega (arith, mark-low 1))) (λ h. ((old-mark bs (While ∷ Begin ∷ []) 0 (lit< tt) h, tt), tt))
-  compiling_leads Kernel.untilC e text k =
-      structured-leads (Begin ∷ []) (token 100 ++ cell (mark_at 0 m)) [] [] (two_bytes (kernel_token 100) (mark_at 0 m) (lit< tt) (omega (arith, mark-low 0))) (λ h. (tt, tt))
-  compiling_leads Kernel.doC e text k =
-      structured-leads [] (token 101 ++ cell 0) [] (mark Do (machine.dp m + 2) ∷ []) (two_bytes (kernel_token 101) 0 (lit< tt) (lit< tt)) (λ h. (tt, (new-mark (kernel_token 101) 0, tt)))
+      structured_leads (While ∷ Begin ∷ []) bs (mark_at 0 m ∷ []) [] (two_bytes (kernel_token 99) (mark_at 1 m) (lit< tt) (omega (arith, mark_low 1))) (λ h. ((old_mark bs (While ∷ Begin ∷ []) 0 (lit< tt) h, tt), tt))
+  compiling_leads Kernel.until_c e text k =
+      structured_leads (Begin ∷ []) (token 100 ++ cell (mark_at 0 m)) [] [] (two_bytes (kernel_token 100) (mark_at 0 m) (lit< tt) (omega (arith, mark_low 0))) (λ h. (tt, tt))
+  compiling_leads Kernel.do_c e text k =
+      structured_leads [] (token 101 ++ cell 0) [] (mark Do (machine.dp m + 2) ∷ []) (two_bytes (kernel_token 101) 0 (lit< tt) (lit< tt)) (λ h. (tt, (new_mark (kernel_token 101) 0, tt)))
   compiling_leads (Kernel.loop_c n) e text k =
       let bs = token n ++ cell (mark_at 0 m + 2) in
-      structured-leads (Do ∷ []) bs (mark_at 0 m ∷ []) [] (two_bytes (kernel_token n) (mark_at 0 m + 2) k (omega (arith, mark-low 0))) (λ h. ((old-mark bs (Do ∷ []) 0 (lit< tt) h, tt), tt))
-  compiling_leads Kernel.quoteC e text k =
+      structured_leads (Do ∷ []) bs (mark_at 0 m ∷ []) [] (two_bytes (kernel_token n) (mark_at 0 m + 2) k (omega (arith, mark_low 0))) (λ h. ((old_mark bs (Do ∷ []) 0 (lit< tt) h, tt), tt))
+  compiling_leads Kernel.quote_c e text k =
       append_leads m s o (token 105 ++ (length text ∷ text)) (append-bytes _ _ (bytes_cell (kernel_token 105) (lit< tt)) (bytes_more (length text) text (omega (arith, k.0)) k.1))

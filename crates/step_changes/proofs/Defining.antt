@@ -12,7 +12,7 @@ use Rattle.dictionary.specs.Trim.{forgotten}
 use Rattle.kernel.specs.Boot.{boot_dict}
 use Rattle.forgetting.specs.Changes as changes
 use Rattle.forgetting.specs.Changes.{Change, colon, define, vocabulary, semicolon, immediate, definitions, forget, Allowed}
-use Rattle.forgetting.specs.Changes.{changed as changedBy}
+use Rattle.forgetting.specs.Changes.{changed as changed_by}
 use Rattle.forgetting.specs.Law as law
 use Rattle.forgetting.specs.Law.{Run, Begin}
 use Rattle.forgetting.proofs.Trims.{append-bytes}
@@ -91,44 +91,44 @@ module _ (m : Machine) (s : Steady m) (z : m.names.opened ≡ 0) (name : List �
         bytes = entry_bytes_lem (blk m) link (count_byte 0 (spelled name)) (spelled name) code (here m) rest s.text.reads (low_cell m s _) (omega (arith, n.few)) n.bytes k (omega (arith, s.space.short)) r;
       }
 
-  begun-leads : (f : Dict → Dict) (c : Change) → Begin c → Allowed law.fence c (dict_of m) → f (dict_of m) ≡ changedBy c (dict_of m) → (f (dict_of m)).here ≡ here m → Begins (dp m + 2) (dict_of m) (dict_of (changed f m)) × Steady (changed f m)
-  begun-leads f c b a e h = (
+  begun_leads : (f : Dict → Dict) (c : Change) → Begin c → Allowed law.fence c (dict_of m) → f (dict_of m) ≡ changed_by c (dict_of m) → (f (dict_of m)).here ≡ here m → Begins (dp m + 2) (dict_of m) (dict_of (changed f m)) × Steady (changed f m)
+  begun_leads f c b a e h = (
     record { next = refl; change = c; begin = b; allowed = a; behind = inl (sym (same_changed m f h) ∙ e) },
     with_change m s f m.stacks.marks h (subst (Run boot_dict) (sym e) (law.and_then c s.came a)) (λ k. absurd (s.compiles k z)) (no_marks (dict_of m) (InOpen (f (dict_of m))) m.stacks.marks z s.marks),
   )
 
-  colon-leads : dp m + (9 + length name) ≤ 32768 → Begins (dp m + 2) (dict_of m) (dict_of (changed (colon_begun (blk m) (spelled name)) m)) × Steady (with_compiling true (changed (colon_begun (blk m) (spelled name)) m))
-  unfolding changedBy
-  colon-leads h =
+  colon_leads : dp m + (9 + length name) ≤ 32768 → Begins (dp m + 2) (dict_of m) (dict_of (changed (colon_begun (blk m) (spelled name)) m)) × Steady (with_compiling true (changed (colon_begun (blk m) (spelled name)) m))
+  unfolding changed_by
+  colon_leads h =
       let f = colon_begun (blk m) (spelled name) in
-      let k = begun-leads f (colon (blk m) (spelled name)) tt (begins 201 [] (lit< tt) bytes_none (omega arith)) refl refl in
+      let k = begun_leads f (colon (blk m) (spelled name)) tt (begins 201 [] (lit< tt) bytes_none (omega arith)) refl refl in
       (k.0, with_compiling_lem (changed f m) k.1 true (λ _ e. omega arith))
 
   -- an entry with one more parameter cell
-  define-allowed : (code x : ℕ) → code < 65536 → x < 65536 → dp m + (9 + length name + 2) ≤ 32768 → Allowed law.fence (define (blk m) (spelled name) code (cell x)) (dict_of m)
-  define-allowed code x k j h = let l = length-cell x in (begins code (cell x) k (bytes_cell x j) (omega arith), (λ _. omega arith))
+  define_allowed : (code x : ℕ) → code < 65536 → x < 65536 → dp m + (9 + length name + 2) ≤ 32768 → Allowed law.fence (define (blk m) (spelled name) code (cell x)) (dict_of m)
+  define_allowed code x k j h = let l = length-cell x in (begins code (cell x) k (bytes_cell x j) (omega arith), (λ _. omega arith))
 
-  define-leads : (code x : ℕ) → code < 65536 → x < 65536 → dp m + (9 + length name + 2) ≤ 32768 → Begins (dp m + 2) (dict_of m) (dict_of (changed (defined (blk m) 0 (spelled name) code (cell x)) m)) × Steady (changed (defined (blk m) 0 (spelled name) code (cell x)) m)
-  unfolding changedBy
-  define-leads code x k j h = begun-leads (defined (blk m) 0 (spelled name) code (cell x)) (define (blk m) (spelled name) code (cell x)) tt (define-allowed code x k j h) refl refl
+  define_leads : (code x : ℕ) → code < 65536 → x < 65536 → dp m + (9 + length name + 2) ≤ 32768 → Begins (dp m + 2) (dict_of m) (dict_of (changed (defined (blk m) 0 (spelled name) code (cell x)) m)) × Steady (changed (defined (blk m) 0 (spelled name) code (cell x)) m)
+  unfolding changed_by
+  define_leads code x k j h = begun_leads (defined (blk m) 0 (spelled name) code (cell x)) (define (blk m) (spelled name) code (cell x)) tt (define_allowed code x k j h) refl refl
 
-  vocabulary-leads : dp m + (9 + length name + 10) ≤ 32768 → Begins (dp m + 2) (dict_of m) (dict_of (changed (vocabulary_defined (blk m) (spelled name)) m)) × Steady (changed (vocabulary_defined (blk m) (spelled name)) m)
-  unfolding changedBy
-  vocabulary-leads h =
+  vocabulary_leads : dp m + (9 + length name + 10) ≤ 32768 → Begins (dp m + 2) (dict_of m) (dict_of (changed (vocabulary_defined (blk m) (spelled name)) m)) × Steady (changed (vocabulary_defined (blk m) (spelled name)) m)
+  unfolding changed_by
+  vocabulary_leads h =
       let v = m.names.voclink in
       let l : length (zeros 8 ++ cell v) ≡ 10 = length-append (zeros 8) (cell v) ∙ omega (arith, length-cell v) in
-      begun-leads (vocabulary_defined (blk m) (spelled name)) (vocabulary (blk m) (spelled name)) tt
+      begun_leads (vocabulary_defined (blk m) (spelled name)) (vocabulary (blk m) (spelled name)) tt
       (begins 204 (zeros 8 ++ cell v) (lit< tt) (append-bytes (zeros 8) (cell v) (bytes_replicate 8 0 (lit< tt)) (bytes_cell v (known (dict_of m) s.came).link)) (omega arith)) refl refl
 
-  variable-leads : dp m + (9 + length name + 2) ≤ 32768 → here m + 2 ≤ 65535 → Begins (dp m + 2) (dict_of m) (dict_of (with_high (m.high ++ cell 0) (changed (defined (blk m) 0 (spelled name) 202 (cell 0)) m))) × Steady (with_high (m.high ++ cell 0) (changed (defined (blk m) 0 (spelled name) 202 (cell 0)) m))
-  unfolding changedBy
-  variable-leads h g =
+  variable_leads : dp m + (9 + length name + 2) ≤ 32768 → here m + 2 ≤ 65535 → Begins (dp m + 2) (dict_of m) (dict_of (with_high (m.high ++ cell 0) (changed (defined (blk m) 0 (spelled name) 202 (cell 0)) m))) × Steady (with_high (m.high ++ cell 0) (changed (defined (blk m) 0 (spelled name) 202 (cell 0)) m))
+  unfolding changed_by
+  variable_leads h g =
       let f = defined (blk m) 0 (spelled name) 202 (cell 0) in
       let xs = m.high ++ cell 0 in
       let l : length xs ≡ length m.high + 2 = length-append m.high (cell 0) ∙ omega (arith, length-cell 0) in
-      let k = define-leads 202 0 (lit< tt) (lit< tt) h in
+      let k = define_leads 202 0 (lit< tt) (lit< tt) h in
       let a = here_leads (changed f m) k.1 z xs (append-bytes _ _ s.space.bytes (bytes_cell 0 (lit< tt))) (omega (arith, s.space.long)) (omega arith) in
-      (record { next = refl; change = define (blk m) (spelled name) 202 (cell 0); begin = tt; allowed = define-allowed 202 0 (lit< tt) (lit< tt) h; behind = inr (32768 + length xs, refl, z) }, a.1)
+      (record { next = refl; change = define (blk m) (spelled name) 202 (cell 0); begin = tt; allowed = define_allowed 202 0 (lit< tt) (lit< tt) h; behind = inr (32768 + length xs, refl, z) }, a.1)
 
 -- FORGET: what the search found in a thread of CURRENT
 pub record InThread (m : Machine) (w : ℕ) : Type 0 where
@@ -137,48 +137,48 @@ pub record InThread (m : Machine) (w : ℕ) : Type 0 where
   pub walk : Walk m.low (cell_at m.low (m.order.current + 2 * thread)) w
 
 module _ (m : Machine) (s : Steady m) (z : m.names.opened ≡ 0) (w : ℕ) (t : InThread m w) where
-  forget-allowed : boots.fence ≤ w → Allowed law.fence (forget w) (dict_of m)
-  forget-allowed f = record { shut = z; thread = t.thread; thread_lt = t.thread_lt; walk = t.walk; high = subst (λ n. n ≤ w) (sym boot_long) f }
+  forget_allowed : boots.fence ≤ w → Allowed law.fence (forget w) (dict_of m)
+  forget_allowed f = record { shut = z; thread = t.thread; thread_lt = t.thread_lt; walk = t.walk; high = subst (λ n. n ≤ w) (sym boot_long) f }
 
   module _ (b : 34048 ≤ body_of m.low w) (h : body_of m.low w ≤ here m) (f : boots.fence ≤ w) where
-    space-left : length (take (body_of m.low w - 32768) m.high) ≡ body_of m.low w - 32768
-    space-left = simp length-take (omega arith)
+    space_left : length (take (body_of m.low w - 32768) m.high) ≡ body_of m.low w - 32768
+    space_left = simp length-take (omega arith)
 
-    here-left : 32768 + length (take (body_of m.low w - 32768) m.high) ≡ (forgotten w (dict_of m)).here
+    here_left : 32768 + length (take (body_of m.low w - 32768) m.high) ≡ (forgotten w (dict_of m)).here
     unfolding forgotten
-    here-left = omega (arith, space-left)
+    here_left = omega (arith, space_left)
 
-    abbrev After-forget : Machine
-    After-forget = with_high (take (body_of m.low w - 32768) m.high) (changed (forgotten w) m)
+    abbrev AfterForget : Machine
+    AfterForget = with_high (take (body_of m.low w - 32768) m.high) (changed (forgotten w) m)
 
-    left_is : dict_of After-forget ≡ forgotten w (dict_of m)
+    left_is : dict_of AfterForget ≡ forgotten w (dict_of m)
     left_is =
         let E = forgotten w (dict_of m) in
-        λ i. record { low = E.low; here = here-left i; newest = E.newest; voc_link = E.voc_link; context = E.context; current = E.current; opened = E.opened }
+        λ i. record { low = E.low; here = here_left i; newest = E.newest; voc_link = E.voc_link; context = E.context; current = E.current; opened = E.opened }
 
-    gone-run : Run boot_dict (forgotten w (dict_of m))
-    unfolding changedBy
-    gone-run = law.and_then (forget w) s.came (forget-allowed f)
+    gone_run : Run boot_dict (forgotten w (dict_of m))
+    unfolding changed_by
+    gone_run = law.and_then (forget w) s.came (forget_allowed f)
 
-    forget-leads : Turns (forgot w) (dict_of m) (dict_of After-forget) × Steady After-forget
-    forget-leads = (
-      (forget-allowed f, left_is),
+    forget_leads : Turns (forgot w) (dict_of m) (dict_of AfterForget) × Steady AfterForget
+    forget_leads = (
+      (forget_allowed f, left_is),
       record {
-        came = subst (Run boot_dict) (sym left_is) gone-run;
+        came = subst (Run boot_dict) (sym left_is) gone_run;
         compiles = λ c. absurd (s.compiles c z);
-        marks = no_marks (dict_of m) (InOpen (dict_of After-forget)) m.stacks.marks z s.marks;
+        marks = no_marks (dict_of m) (InOpen (dict_of AfterForget)) m.stacks.marks z s.marks;
         stacks = s.stacks;
         text = s.text;
-        space = record { bytes = bytes_take (body_of m.low w - 32768) m.high s.space.bytes; long = omega (arith, space-left); short = omega (arith, space-left, s.space.short) };
+        space = record { bytes = bytes_take (body_of m.low w - 32768) m.high s.space.bytes; long = omega (arith, space_left); short = omega (arith, space_left, s.space.short) };
         pointer = s.pointer;
         store = s.store;
       },
     )
 
 module _ (m : Machine) (s : Steady m) where
-  semicolon-leads : m.names.opened ≢ 0 → m.stacks.marks ≡ [] → dp m + 2 ≤ 32768 → Quietly (dict_of m) (dict_of (changed (λ D. open_joined (appended (cell (kernel_token 91)) D)) m)) × Steady (with_compiling false (changed (λ D. open_joined (appended (cell (kernel_token 91)) D)) m))
-  unfolding changedBy
-  semicolon-leads o e h =
+  semicolon_leads : m.names.opened ≢ 0 → m.stacks.marks ≡ [] → dp m + 2 ≤ 32768 → Quietly (dict_of m) (dict_of (changed (λ D. open_joined (appended (cell (kernel_token 91)) D)) m)) × Steady (with_compiling false (changed (λ D. open_joined (appended (cell (kernel_token 91)) D)) m))
+  unfolding changed_by
+  semicolon_leads o e h =
       let bs = cell (kernel_token 91) in
       let f = λ (D : Dict). open_joined (appended bs D) in
       let n = with_compiling false m in
@@ -186,13 +186,13 @@ module _ (m : Machine) (s : Steady m) where
       let q : Quietly (dict_of m) (f (dict_of m)) = and_then semicolon (appended_quietly (dict_of m) s.came o bs (bytes_cell (kernel_token 91) (lit< tt)) (omega (arith, length-cell (kernel_token 91)))) o tt in
       change_leads n k f m.stacks.marks refl q (λ c. absurd (false≢true c)) (subst (All (InOpen (f (dict_of m)))) (sym e) tt)
 
-  definitions-leads : m.names.opened ≡ 0 → Quietly (dict_of m) (dict_of (changed (with_current m.order.context) m)) × Steady (changed (with_current m.order.context) m)
-  unfolding changedBy
-  definitions-leads z = change_leads m s (with_current m.order.context) m.stacks.marks refl (and_then definitions stays z tt) s.compiles (no_marks (dict_of m) (InOpen (with_current m.order.context (dict_of m))) m.stacks.marks z s.marks)
+  definitions_leads : m.names.opened ≡ 0 → Quietly (dict_of m) (dict_of (changed (with_current m.order.context) m)) × Steady (changed (with_current m.order.context) m)
+  unfolding changed_by
+  definitions_leads z = change_leads m s (with_current m.order.context) m.stacks.marks refl (and_then definitions stays z tt) s.compiles (no_marks (dict_of m) (InOpen (with_current m.order.context (dict_of m))) m.stacks.marks z s.marks)
 
-  immediate-leads : m.names.opened ≡ 0 → Quietly (dict_of m) (dict_of (changed immediate_marked m)) × Steady (changed immediate_marked m)
-  unfolding changedBy
-  immediate-leads z = change_leads m s immediate_marked m.stacks.marks refl (and_then immediate stays z tt) s.compiles (no_marks (dict_of m) (InOpen (immediate_marked (dict_of m))) m.stacks.marks z s.marks)
+  immediate_leads : m.names.opened ≡ 0 → Quietly (dict_of m) (dict_of (changed immediate_marked m)) × Steady (changed immediate_marked m)
+  unfolding changed_by
+  immediate_leads z = change_leads m s immediate_marked m.stacks.marks refl (and_then immediate stays z tt) s.compiles (no_marks (dict_of m) (InOpen (immediate_marked (dict_of m))) m.stacks.marks z s.marks)
 
   -- what a defining word is given
   abbrev pub Given : DefiningWord → List ℕ → ℕ → Type 0
@@ -207,19 +207,19 @@ module _ (m : Machine) (s : Steady m) where
   Given Kernel.forget name w = (m.names.opened ≡ 0) × InThread m w
 
   pub defining_leads : (d : DefiningWord) (name : List ℕ) (w : ℕ) → Given d name w → Leads (dict_of m) (do_defining d name w m)
-  defining_leads Kernel.colon name w k = leads_ask _ _ _ (fits (9 + length name) m) _ (λ h. colon-leads m s k.0 name (named name k.1) (leb-true _ 32768 h))
+  defining_leads Kernel.colon name w k = leads_ask _ _ _ (fits (9 + length name) m) _ (λ h. colon_leads m s k.0 name (named name k.1) (leb-true _ 32768 h))
   defining_leads Kernel.semicolon name w k =
-      leads_ask _ _ _ (eqb (length m.stacks.marks) 0) _ (λ e. leads_ask _ _ _ (fits 2 m) _ (λ h. semicolon-leads k (nil_from_length m.stacks.marks (eqb-true _ 0 e)) (leb-true _ 32768 h)))
-  defining_leads Kernel.create name w k = leads_ask _ _ _ (fits (9 + length name + 2) m) _ (λ h. define-leads m s k.0 name (named name k.1) 202 0 (lit< tt) (lit< tt) (leb-true _ 32768 h))
+      leads_ask _ _ _ (eqb (length m.stacks.marks) 0) _ (λ e. leads_ask _ _ _ (fits 2 m) _ (λ h. semicolon_leads k (nil_from_length m.stacks.marks (eqb-true _ 0 e)) (leb-true _ 32768 h)))
+  defining_leads Kernel.create name w k = leads_ask _ _ _ (fits (9 + length name + 2) m) _ (λ h. define_leads m s k.0 name (named name k.1) 202 0 (lit< tt) (lit< tt) (leb-true _ 32768 h))
   defining_leads Kernel.variable name w k =
-      leads_ask _ _ _ (fits (9 + length name + 2) m) _ (λ h. leads_ask _ _ _ (leb (here m + 2) 65535) _ (λ g. variable-leads m s k.0 name (named name k.1) (leb-true _ 32768 h) (leb-true _ 65535 g)))
+      leads_ask _ _ _ (fits (9 + length name + 2) m) _ (λ h. leads_ask _ _ _ (leb (here m + 2) 65535) _ (λ g. variable_leads m s k.0 name (named name k.1) (leb-true _ 32768 h) (leb-true _ 65535 g)))
   defining_leads Kernel.constant name w k =
-      leads_ask _ _ _ (has_cells 1 m) _ (λ c. leads_ask _ _ _ (fits (9 + length name + 2) m) _ (λ h. define-leads (popped 1 m) (with_popped m s 1) k.0 name (named name k.1) 203 (nth 0 m) (lit< tt) (nth_cell m s 0) (leb-true _ 32768 h)))
-  defining_leads Kernel.vocabulary name w k = leads_ask _ _ _ (fits (9 + length name + 10) m) _ (λ h. vocabulary-leads m s k.0 name (named name k.1) (leb-true _ 32768 h))
-  defining_leads Kernel.definitions name w k = definitions-leads k
-  defining_leads Kernel.immediate name w k = quiet_if m s (has_newest m) (changed immediate_marked m) m (immediate-leads k) (stays, s)
+      leads_ask _ _ _ (has_cells 1 m) _ (λ c. leads_ask _ _ _ (fits (9 + length name + 2) m) _ (λ h. define_leads (popped 1 m) (with_popped m s 1) k.0 name (named name k.1) 203 (nth 0 m) (lit< tt) (nth_cell m s 0) (leb-true _ 32768 h)))
+  defining_leads Kernel.vocabulary name w k = leads_ask _ _ _ (fits (9 + length name + 10) m) _ (λ h. vocabulary_leads m s k.0 name (named name k.1) (leb-true _ 32768 h))
+  defining_leads Kernel.definitions name w k = definitions_leads k
+  defining_leads Kernel.immediate name w k = quiet_if m s (has_newest m) (changed immediate_marked m) m (immediate_leads k) (stays, s)
   defining_leads Kernel.forget name w k =
       let body = body_of m.low w in
       leads_ask _ _ _ (leb 34048 body && leb body (here m)) _ (λ g. leads_ask _ _ _ (leb boots.fence w) _ (λ f.
       let p = and_parts (leb 34048 body) (leb body (here m)) g in
-      forget-leads m s k.0 w k.1 (leb-true 34048 body p.0) (leb-true body (here m) p.1) (leb-true boots.fence w f)))
+      forget_leads m s k.0 w k.1 (leb-true 34048 body p.0) (leb-true body (here m) p.1) (leb-true boots.fence w f)))

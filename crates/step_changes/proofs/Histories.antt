@@ -9,7 +9,7 @@ use Rattle.dictionary.specs.Trim.{forgotten}
 use Rattle.kernel.specs.Table as table
 use Rattle.kernel.specs.Boot.{boot_dict, with_kernel, forth_alone}
 use Rattle.forgetting.specs.Changes.{Change, colon, define, vocabulary, append, patch, semicolon, immediate, does, allot, seek, definitions, forget, give_up, Allowed, with_here}
-use Rattle.forgetting.specs.Changes.{changed as changedBy}
+use Rattle.forgetting.specs.Changes.{changed as changed_by}
 use Rattle.forgetting.specs.Law as law
 use Rattle.forgetting.specs.Law.{fence, Run, Begin, Keeps, still, and_still, Same}
 use Rattle.forgetting.proofs.Trims.{append-bytes}
@@ -120,19 +120,19 @@ keeps_quietly k laws.stays = k
 keeps_quietly {w} k (laws.and_then {A = B} c q a h) = and_still c (keeps_quietly k q) a (quiet_lasts c h w B)
 
 -- data space may be allotted right behind a beginning
-keeps_behind : (w : ℕ) (A D E : Dict) (c : Change) → Keeps w A (changedBy c D) → (E ≡ changedBy c D) ⊎ ((h : ℕ) × (E ≡ with_here h (changedBy c D)) × ((changedBy c D).opened ≡ 0)) → Keeps w A E
-unfolding changedBy
+keeps_behind : (w : ℕ) (A D E : Dict) (c : Change) → Keeps w A (changed_by c D) → (E ≡ changed_by c D) ⊎ ((h : ℕ) × (E ≡ with_here h (changed_by c D)) × ((changed_by c D).opened ≡ 0)) → Keeps w A E
+unfolding changed_by
 keeps_behind w A D E c k (inl e) = subst (Keeps w A) (sym e) k
 keeps_behind w A D E c k (inr (h, e, z)) = subst (Keeps w A) (sym e) (and_still (allot h) k z (λ x. x))
 
 keeps_turn : (w : ℕ) (A D E : Dict) (n : News) → Keeps w A D → Turns n D E → ¬ Forgot n w → Keeps w A E
-unfolding changedBy
+unfolding changed_by
 keeps_turn w A D E no_news k t l = keeps_quietly k t
 keeps_turn w A D E (began y) k t l = keeps_behind w A D E t.change (and_still t.change k t.allowed (begin_lasts t.change t.begin w D)) t.behind
 keeps_turn w A D E (forgot y) k t l = subst (Keeps w A) (sym t.1) (and_still (forget y) k t.0 l)
 
 keeps_given_up : (w : ℕ) (A D : Dict) → Keeps w A D → ¬ (D.opened ≡ w) → Keeps w A (given_up D)
-unfolding changedBy
+unfolding changed_by
 keeps_given_up w A D k l = and_still give_up k tt l
 
 keeps_moment : (w : ℕ) (A : Dict) {a b : Machine} → Steady a → Keeps w A (dict_of a) → (k : Moment a b) → ¬ Ends w k → Keeps w A (dict_of b)
@@ -163,7 +163,7 @@ step_forgets e before found begun done t =
     let s = history_steady (boot_steady t.store t.store_holds) t.history in
     let p = at_step before s (Step.went begun) t.begins in
     let b = begun_as (dict_of before) (dict_of begun.machine) begun.news e t.word p.0 in
-    let A = changedBy b.change (dict_of before) in
+    let A = changed_by b.change (dict_of before) in
     let k : Standing e A begun.machine = (p.1, keeps_behind e A (dict_of before) (dict_of begun.machine) b.change still b.behind) in
     let f = keeps_standing e A k t.standing in
     let q = at_step found f.0 (Step.went done) t.forgets in

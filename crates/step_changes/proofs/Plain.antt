@@ -59,8 +59,8 @@ divided_in a b =
     in_either (eqb b.size 0) _ _ none_in (in_either (beq a.is_below b.is_below) _ _ (same_in b.is_below a.size b.size) (two_in b.is_below a.size b.size))
 
 module _ (m : Machine) (s : Steady m) where
-  roll-cells : (k : ℕ) (xs : List ℕ) → Cells xs → Cells (roll 0 k xs)
-  roll-cells k xs h = (
+  roll_cells : (k : ℕ) (xs : List ℕ) → Cells xs → Cells (roll 0 k xs)
+  roll_cells k xs h = (
     Rattle.step_changes.proofs.Ranges.all_or (λ x. x < 65536) xs k 0 (omega arith) h,
     All-append (λ x. x < 65536) (take k xs) (drop (k + 1) xs) (All-take (λ x. x < 65536) k xs h) (All-drop (λ x. x < 65536) (k + 1) xs h),
   )
@@ -86,19 +86,19 @@ module _ (m : Machine) (s : Steady m) where
       let t = drop 1 m.stacks.cells in
       leads_ask _ _ _ (has_cells 1 m) _ (λ h. leads_ask _ _ _ (has_cells (nth 0 m + 2) m) _ (λ g.
       stayed (with_cells (roll 0 (nth 0 m) t) m) stays
-      (with_cells_lem m s (roll 0 (nth 0 m) t) (roll-cells (nth 0 m) t (All-drop (λ x. x < 65536) 1 m.stacks.cells s.stacks.cells)) (rolled-short (nth 0 m) m.stacks.cells (leb-true (nth 0 m + 2) (length m.stacks.cells) g) s.stacks.depth))))
+      (with_cells_lem m s (roll 0 (nth 0 m) t) (roll_cells (nth 0 m) t (All-drop (λ x. x < 65536) 1 m.stacks.cells s.stacks.cells)) (rolled_short (nth 0 m) m.stacks.cells (leb-true (nth 0 m + 2) (length m.stacks.cells) g) s.stacks.depth))))
     where
-      rolled-short : (k : ℕ) (xs : List ℕ) → k + 2 ≤ length xs → length xs ≤ 128 → length (roll 0 k (drop 1 xs)) ≤ 128
-      rolled-short k xs h l = simp (length-append, length-take, length-drop) (omega arith)
+      rolled_short : (k : ℕ) (xs : List ℕ) → k + 2 ≤ length xs → length xs ≤ 128 → length (roll 0 k (drop 1 xs)) ≤ 128
+      rolled_short k xs h l = simp (length-append, length-take, length-drop) (omega arith)
 
   -- words that type
 
-  number-leads : (text : ℕ → ℕ → List ℕ) → Leads (dict_of m) (ask m StackUnderflow (has_cells 1 m) >> (ask m BadBase (is_base (base m)) >> typing (text (base m) (nth 0 m) ++ (32 ∷ [])) (popped 1 m)))
-  number-leads text = leads_ask _ _ _ (has_cells 1 m) _ (λ h. leads_ask _ _ _ (is_base (base m)) _ (λ g. stayed (popped 1 m) stays (with_popped m s 1)))
+  number_leads : (text : ℕ → ℕ → List ℕ) → Leads (dict_of m) (ask m StackUnderflow (has_cells 1 m) >> (ask m BadBase (is_base (base m)) >> typing (text (base m) (nth 0 m) ++ (32 ∷ [])) (popped 1 m)))
+  number_leads text = leads_ask _ _ _ (has_cells 1 m) _ (λ h. leads_ask _ _ _ (is_base (base m)) _ (λ g. stayed (popped 1 m) stays (with_popped m s 1)))
 
   pub typing_leads : (w : TypingWord) → Leads (dict_of m) (do_typing w m)
-  typing_leads Kernel.dot = number-leads signed_text
-  typing_leads Kernel.uDot = number-leads unsigned_text
+  typing_leads Kernel.dot = number_leads signed_text
+  typing_leads Kernel.u_dot = number_leads unsigned_text
   typing_leads Kernel.emit = leads_ask _ _ _ (has_cells 1 m) _ (λ h. stayed (popped 1 m) stays (with_popped m s 1))
   typing_leads Kernel.type =
       leads_ask _ _ _ (has_cells 2 m) _ (λ h. leads_ask _ _ _ (in_reach (nth 1 m) (if is_negative (nth 0 m) then 0 else nth 0 m) m) _ (λ g. stayed (popped 2 m) stays (with_popped m s 2)))
@@ -133,7 +133,7 @@ module _ (m : Machine) (s : Steady m) where
   returns_lead Kernel.to_r =
       leads_ask _ _ _ (has_cells 1 m) _ (λ h. leads_ask _ _ _ (has_return_room 1 m) _ (λ g.
       stayed (pushed_returns (nth 0 m ∷ []) (popped 1 m)) stays (with_pushed_returns (popped 1 m) (with_popped m s 1) (nth 0 m ∷ []) (nth_cell m s 0, tt))))
-  returns_lead Kernel.fromR =
+  returns_lead Kernel.from_r =
       leads_ask _ _ _ (has_room 1 m) _ (λ h. leads_ask _ _ _ (has_returns 1 m) _ (λ g.
       stayed (pushed (nth_return 0 m) (popped_returns 1 m)) stays (with_pushed (popped_returns 1 m) (with_popped_returns m s 1) (nth_return 0 m) (nth_return_lem m s 0) h)))
   returns_lead (Kernel.copy_at k) =

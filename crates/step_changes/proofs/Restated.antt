@@ -12,7 +12,6 @@ use Rattle.definition.specs.Machine.{Machine, told, offset, reading_on, with_mar
 use Rattle.definition.specs.Asked.{Asked, refused, given, ask, ◌>>=◌, ◌>>◌, After, quietly}
 use Rattle.definition.specs.Stacks.{pick}
 use Rattle.definition.specs.Define.{fits}
-use Rattle.definition.specs.Flow.{in_dictionary}
 use Rattle.definition.specs.Text.{Taken}
 
 abbrev pub all_within : ℕ → ℕ → List ℕ → Bool
@@ -48,15 +47,10 @@ abbrev pub resolved : List ℕ → Dict → Dict
 resolved [] D = D
 resolved (a ∷ rest) D = resolved rest (patched a (length D.low) D)
 
-abbrev pub are_cells : List ℕ → Machine → Bool
-are_cells [] m = true
-are_cells (a ∷ rest) m = in_dictionary a 2 m && are_cells rest m
-
 abbrev pub structured : List Kind → List ℕ → List ℕ → List Mark → Machine → Asked After
 structured kinds bs known new m = do
   let marks = new ++ drop (length kinds) m.stacks.marks
   ask m BadMark (are_marks kinds m.stacks.marks)
-  ask m BadMark (are_cells known m)
   ask m BadMark (leb (length marks) 32)
   ask m DictionaryFull (fits (length bs) m)
   quietly (with_marks marks (changed (λ D. resolved known (appended bs D)) m))

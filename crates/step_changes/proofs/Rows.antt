@@ -26,10 +26,10 @@ use Rattle.step_changes.proofs.Taking.{Facts}
 
 -- what an answer to a question of the state tells
 abbrev Tells : Asks → Machine → Type 0
-Tells Kernel.hasOpen m = m.names.opened ≢ 0
-Tells Kernel.noneOpen m = m.names.opened ≡ 0
-Tells Kernel.ipZero m = Unit {0}
-Tells Kernel.ipSet m = Unit {0}
+Tells Kernel.has_open m = m.names.opened ≢ 0
+Tells Kernel.none_open m = m.names.opened ≡ 0
+Tells Kernel.ip_zero m = Unit {0}
+Tells Kernel.ip_set m = Unit {0}
 
 abbrev pub AllTell : List Asks → Machine → Type 0
 AllTell [] m = Unit {0}
@@ -47,7 +47,7 @@ Given (Kernel.returns w) a s = Unit {0}
 Given (Kernel.inlines w) a s = flowing.Given a.machine s w
 Given Kernel.execute a s = Unit {0}
 Given Kernel.tick a s = token_of a.machine.low a.entry < 65536
-Given Kernel.toBody a s = Unit {0}
+Given Kernel.to_body a s = Unit {0}
 Given Kernel.comment a s = Unit {0}
 Given Kernel.abort a s = Unit {0}
 
@@ -402,22 +402,22 @@ kernel_proper =
 -- questions of the state, answered by a yes
 pub leads_asked : (D : Dict) (m : Machine) (qs : List Asks) (rest : Asked After) → (AllTell qs m → Leads D rest) → Leads D (all_asked qs m >> rest)
 leads_asked D m [] rest h = h tt
-leads_asked D m (Kernel.hasOpen ∷ qs) rest h = go (eqb m.names.opened 0) refl (λ k. leads_asked D m qs rest k)
+leads_asked D m (Kernel.has_open ∷ qs) rest h = go (eqb m.names.opened 0) refl (λ k. leads_asked D m qs rest k)
   where
     go : (b : Bool) → eqb m.names.opened 0 ≡ b → ((AllTell qs m → Leads D rest) → Leads D (all_asked qs m >> rest)) → Leads D ((ask m NoDefinition (not b) >> all_asked qs m) >> rest)
     go true e f = tt
     go false e f = f (λ k. h (eqb-false m.names.opened 0 e, k))
-leads_asked D m (Kernel.noneOpen ∷ qs) rest h = go (eqb m.names.opened 0) refl (λ k. leads_asked D m qs rest k)
+leads_asked D m (Kernel.none_open ∷ qs) rest h = go (eqb m.names.opened 0) refl (λ k. leads_asked D m qs rest k)
   where
     go : (b : Bool) → eqb m.names.opened 0 ≡ b → ((AllTell qs m → Leads D rest) → Leads D (all_asked qs m >> rest)) → Leads D ((ask m DefinitionOpen b >> all_asked qs m) >> rest)
     go true e f = f (λ k. h (eqb-true m.names.opened 0 e, k))
     go false e f = tt
-leads_asked D m (Kernel.ipZero ∷ qs) rest h = go (eqb (ip m) 0) (leads_asked D m qs rest (λ k. h (tt, k)))
+leads_asked D m (Kernel.ip_zero ∷ qs) rest h = go (eqb (ip m) 0) (leads_asked D m qs rest (λ k. h (tt, k)))
   where
     go : (b : Bool) → Leads D (all_asked qs m >> rest) → Leads D ((ask m WordRunning b >> all_asked qs m) >> rest)
     go true f = f
     go false f = tt
-leads_asked D m (Kernel.ipSet ∷ qs) rest h = go (not (eqb (ip m) 0)) (leads_asked D m qs rest (λ k. h (tt, k)))
+leads_asked D m (Kernel.ip_set ∷ qs) rest h = go (not (eqb (ip m) 0)) (leads_asked D m qs rest (λ k. h (tt, k)))
   where
     go : (b : Bool) → Leads D (all_asked qs m >> rest) → Leads D ((ask m NoWordRunning b >> all_asked qs m) >> rest)
     go true f = f

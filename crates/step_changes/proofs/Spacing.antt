@@ -9,7 +9,7 @@ use Rattle.image.specs.Cells.{at, cell, cell_at, zeros, Bytes}
 use Rattle.entries.specs.Entries.{body_of}
 use Rattle.numbers.specs.Cells.{wrap, is_negative, magnitude}
 use Rattle.forgetting.specs.Changes.{allot}
-use Rattle.forgetting.specs.Changes.{changed as changedBy}
+use Rattle.forgetting.specs.Changes.{changed as changed_by}
 use Rattle.forgetting.specs.Law as law
 use Rattle.forgetting.proofs.Trims.{append-bytes}
 use Rattle.definition.specs.Machine.{Machine, here, with_high, dict_of}
@@ -29,7 +29,7 @@ high_leads m s xs b e = (subst (Quietly (dict_of m)) (same_dict m xs e) stays, w
 
 -- HERE moved, while no entry is open
 pub here_leads : (m : Machine) → Steady m → m.names.opened ≡ 0 → (xs : List ℕ) → Bytes xs → 1280 ≤ length xs → length xs ≤ 32767 → Quietly (dict_of m) (dict_of (with_high xs m)) × Steady (with_high xs m)
-unfolding changedBy
+unfolding changed_by
 here_leads m s z xs b l h = (
   and_then (allot (here (with_high xs m))) stays z tt,
   record {
@@ -52,15 +52,15 @@ reach a n m h = elim (or_cases (eqb n 0) (leb 32768 a && leb (a + n) (here m)) h
 ]
 
 module _ (m : Machine) (s : Steady m) where
-  put-fits : (a n : ℕ) (new : List ℕ) → length new ≤ n → (n ≡ 0) ⊎ ((32768 ≤ a) × (a + n ≤ here m)) → (length new ≡ 0) ⊎ (a - 32768 + length new ≤ length m.high)
-  put-fits a n new l (inl e) = inl (omega arith)
-  put-fits a n new l (inr e) = inr (omega arith)
+  put_fits : (a n : ℕ) (new : List ℕ) → length new ≤ n → (n ≡ 0) ⊎ ((32768 ≤ a) × (a + n ≤ here m)) → (length new ≡ 0) ⊎ (a - 32768 + length new ≤ length m.high)
+  put_fits a n new l (inl e) = inl (omega arith)
+  put_fits a n new l (inr e) = inr (omega arith)
 
-  stored-leads : (a n : ℕ) (new : List ℕ) → Bytes new → length new ≤ n → in_reach a n m ≡ true → Quietly (dict_of m) (dict_of (stored a new m)) × Steady (stored a new m)
-  stored-leads a n new b l r = high_leads m s _ (bytes_put (a - 32768) new m.high b s.space.bytes) (length_put (a - 32768) new m.high (put-fits a n new l (reach a n m r)))
+  stored_leads : (a n : ℕ) (new : List ℕ) → Bytes new → length new ≤ n → in_reach a n m ≡ true → Quietly (dict_of m) (dict_of (stored a new m)) × Steady (stored a new m)
+  stored_leads a n new b l r = high_leads m s _ (bytes_put (a - 32768) new m.high b s.space.bytes) (length_put (a - 32768) new m.high (put_fits a n new l (reach a n m r)))
 
-  high-cell : (a : ℕ) → cell_at m.high a < 65536
-  high-cell a = cell_below m.high a s.space.bytes
+  high_cell : (a : ℕ) → cell_at m.high a < 65536
+  high_cell a = cell_below m.high a s.space.bytes
 
 short_bytes : (n x : ℕ) → length (take n (cell x)) ≤ n
 short_bytes n x = simp length-take (omega arith)
@@ -74,16 +74,16 @@ lowest_above true x a h = omega arith
 lowest_above false x a h = h
 
 module _ (m : Machine) (s : Steady m) where
-  fetched-cell : (b : Bool) (a : ℕ) → (if b then at m.high a else cell_at m.high a) < 65536
-  fetched-cell true a = omega (arith, s.space.bytes a)
-  fetched-cell false a = high-cell m s a
+  fetched_cell : (b : Bool) (a : ℕ) → (if b then at m.high a else cell_at m.high a) < 65536
+  fetched_cell true a = omega (arith, s.space.bytes a)
+  fetched_cell false a = high_cell m s a
 
   -- what a word is given: ALLOT, `,` and C, no open entry, a base a cell
   abbrev pub Given : SpaceWord → Type 0
   Given (Kernel.fetches n) = Unit {0}
   Given (Kernel.stores n) = Unit {0}
   Given (Kernel.appends n) = m.names.opened ≡ 0
-  Given Kernel.addTo = Unit {0}
+  Given Kernel.add_to = Unit {0}
   Given Kernel.move = Unit {0}
   Given Kernel.fill = Unit {0}
   Given Kernel.allot = m.names.opened ≡ 0
@@ -91,25 +91,25 @@ module _ (m : Machine) (s : Steady m) where
 
   pub space_leads : (w : SpaceWord) → Given w → Leads (dict_of m) (do_space w m)
   space_leads (Kernel.fetches n) z =
-      leads_ask _ _ _ (has_cells 1 m) _ (λ h. leads_ask _ _ _ (in_reach (nth 0 m) n m) _ (λ g. replaced_leads m s 1 ((if eqb n 1 then at m.high (nth 0 m - 32768) else cell_at m.high (nth 0 m - 32768)) ∷ []) (fetched-cell (eqb n 1) (nth 0 m - 32768), tt)))
+      leads_ask _ _ _ (has_cells 1 m) _ (λ h. leads_ask _ _ _ (in_reach (nth 0 m) n m) _ (λ g. replaced_leads m s 1 ((if eqb n 1 then at m.high (nth 0 m - 32768) else cell_at m.high (nth 0 m - 32768)) ∷ []) (fetched_cell (eqb n 1) (nth 0 m - 32768), tt)))
   space_leads (Kernel.stores n) z =
       leads_ask _ _ _ (has_cells 2 m) _ (λ h. leads_ask _ _ _ (in_reach (nth 0 m) n m) _ (λ g.
-      stored-leads (popped 2 m) (with_popped m s 2) (nth 0 m) n (take n (cell (nth 1 m))) (bytes_take n _ (bytes_cell (nth 1 m) (nth_cell m s 1))) (short_bytes n (nth 1 m)) g))
+      stored_leads (popped 2 m) (with_popped m s 2) (nth 0 m) n (take n (cell (nth 1 m))) (bytes_take n _ (bytes_cell (nth 1 m) (nth_cell m s 1))) (short_bytes n (nth 1 m)) g))
   space_leads (Kernel.appends n) z =
       leads_ask _ _ _ (has_cells 1 m) _ (λ h. leads_ask _ _ _ (leb (here m + n) 65535) _ (λ g.
       here_leads (popped 1 m) (with_popped m s 1) z (m.high ++ take n (cell (nth 0 m))) (append-bytes _ _ s.space.bytes (bytes_take n _ (bytes_cell (nth 0 m) (nth_cell m s 0))))
       (simp length-append (omega (arith, s.space.long))) (simp length-append (omega (arith, leb-true (here m + n) 65535 g, short_bytes n (nth 0 m))))))
-  space_leads Kernel.addTo z =
+  space_leads Kernel.add_to z =
       let x = wrap (cell_at m.high (nth 0 m - 32768) + nth 1 m) in
       leads_ask _ _ _ (has_cells 2 m) _ (λ h. leads_ask _ _ _ (in_reach (nth 0 m) 2 m) _ (λ g.
-      stored-leads (popped 2 m) (with_popped m s 2) (nth 0 m) 2 (cell x) (bytes_cell x (omega arith)) (omega (arith, length-cell x)) g))
+      stored_leads (popped 2 m) (with_popped m s 2) (nth 0 m) 2 (cell x) (bytes_cell x (omega arith)) (omega (arith, length-cell x)) g))
   space_leads Kernel.move z =
       let xs = moved_up (nth 0 m) (nth 2 m - 32768) (nth 1 m - 32768) m.high in
       leads_ask _ _ _ (has_cells 3 m) _ (λ h. leads_ask _ _ _ (in_reach (nth 2 m) (nth 0 m) m) _ (λ g. leads_ask _ _ _ (in_reach (nth 1 m) (nth 0 m) m) _ (λ f.
       high_leads (popped 3 m) (with_popped m s 3) xs (bytes_moved (nth 0 m) _ _ m.high s.space.bytes) (length_moved (nth 0 m) _ _ m.high))))
   space_leads Kernel.fill z =
       leads_ask _ _ _ (has_cells 3 m) _ (λ h. leads_ask _ _ _ (in_reach (nth 2 m) (nth 1 m) m) _ (λ g.
-      stored-leads (popped 3 m) (with_popped m s 3) (nth 2 m) (nth 1 m) (replicate (nth 1 m) (nth 0 m % 256)) (bytes_replicate (nth 1 m) (nth 0 m % 256) (omega arith)) (simp length-replicate (omega arith)) g))
+      stored_leads (popped 3 m) (with_popped m s 3) (nth 2 m) (nth 1 m) (replicate (nth 1 m) (nth 0 m % 256)) (bytes_replicate (nth 1 m) (nth 0 m % 256) (omega arith)) (simp length-replicate (omega arith)) g))
   space_leads (Kernel.set_base n) z =
       high_leads m s _ (bytes_put 0 (cell n) m.high (bytes_cell n z) s.space.bytes) (length_put 0 (cell n) m.high (inr (omega (arith, length-cell n, s.space.long))))
   space_leads Kernel.allot z =

@@ -9,7 +9,7 @@ use Rattle.dictionary.specs.Search.{searched}
 use Rattle.numbers.specs.Text.{number_in}
 use Rattle.kernel.specs.Boot.{boot_dict}
 use Rattle.forgetting.specs.Changes.{give_up}
-use Rattle.forgetting.specs.Changes.{changed as changedBy}
+use Rattle.forgetting.specs.Changes.{changed as changed_by}
 use Rattle.forgetting.specs.Law as law
 use Rattle.forgetting.specs.Law.{Run}
 use Rattle.forgetting.proofs.Trims.{append-bytes}
@@ -56,7 +56,7 @@ performs again g (Kernel.returns w) a s h = returns_lead a.machine s w
 performs again g (Kernel.inlines w) a s h = inlines_lead a.machine s w h
 performs again g Kernel.execute a s h = leads_ask _ _ _ (has_cells 1 a.machine) _ (λ c. g (nth 0 a.machine) (popped 1 a.machine) (with_popped a.machine s 1))
 performs again g Kernel.tick a s h = replaced_leads a.machine s 0 (token_of a.machine.low a.entry ∷ []) (h, tt)
-performs again g Kernel.toBody a s h =
+performs again g Kernel.to_body a s h =
     let m = a.machine in
     let code = cell_at m.low (nth 0 m) in
     leads_ask _ _ _ (has_cells 1 m) _ (λ c. leads_ask _ _ _ (in_dictionary (nth 0 m) 4 m && (eqb code 202 || eqb code 205)) _ (λ d. replaced_leads m s 1 (cell_at m.low (nth 0 m + 2) ∷ []) (low_cell m s (nth 0 m + 2), tt)))
@@ -101,33 +101,33 @@ module _ (m : Machine) (s : Steady m) where
   found_gives name broken h = tt
   found_gives name (hit e) h = found_token m s name e h
 
-  word-gives : (bytes : List ℕ) (found : Option ℕ) → FoundIn m found → Gives Means (Step.word_of bytes found m)
-  word-gives bytes (Some e) h = go (is_immediate m.low e)
+  word_gives : (bytes : List ℕ) (found : Option ℕ) → FoundIn m found → Gives Means (Step.word_of bytes found m)
+  word_gives bytes (Some e) h = go (is_immediate m.low e)
     where
       go : (b : Bool) → Means (if b then Step.immediate (token_of m.low e) else Step.plain (token_of m.low e))
       go true = tt
       go false = h
-  word-gives bytes None h = go (number_in (base m) bytes) (number_cell (base m) bytes)
+  word_gives bytes None h = go (number_in (base m) bytes) (number_cell (base m) bytes)
     where
       go : (o : Option ℕ) → CellOr o → Gives Means (ask_there m o >>= λ n. given (Step.number n))
       go None k = tt
       go (Some n) k = k
 
-  acted-leads : (c : Bool) → m.flow.compiling ≡ c → (w : Word) → Means w → Leads (dict_of m) (Step.acted c w m)
-  acted-leads false e (Step.immediate t) k = executed t m s
-  acted-leads false e (Step.plain t) k = executed t m s
-  acted-leads false e (Step.number n) k = replaced_leads m s 0 (n ∷ []) (k, tt)
-  acted-leads true e (Step.immediate t) k = executed t m s
-  acted-leads true e (Step.plain t) k = append_leads m s (s.compiles e) (cell t) (bytes_cell t k)
-  acted-leads true e (Step.number n) k = append_leads m s (s.compiles e) (literal_of n) (append-bytes (cell (kernel_token 98)) (cell n) (bytes_cell (kernel_token 98) (lit< tt)) (bytes_cell n k))
+  acted_leads : (c : Bool) → m.flow.compiling ≡ c → (w : Word) → Means w → Leads (dict_of m) (Step.acted c w m)
+  acted_leads false e (Step.immediate t) k = executed t m s
+  acted_leads false e (Step.plain t) k = executed t m s
+  acted_leads false e (Step.number n) k = replaced_leads m s 0 (n ∷ []) (k, tt)
+  acted_leads true e (Step.immediate t) k = executed t m s
+  acted_leads true e (Step.plain t) k = append_leads m s (s.compiles e) (cell t) (bytes_cell t k)
+  acted_leads true e (Step.number n) k = append_leads m s (s.compiles e) (literal_of n) (append-bytes (cell (kernel_token 98)) (cell n) (bytes_cell (kernel_token 98) (lit< tt)) (bytes_cell n k))
 
 interpreted_leads : (t : Taken) → Steady t.machine → Leads (dict_of t.machine) (Step.interpreted t)
 interpreted_leads t s =
     let m = t.machine in
     leads_ask _ _ _ (is_name t.bytes) _ (λ n.
     leads_given (dict_of m) (FoundIn m) (ask_found m (searched (dict_of m) t.bytes)) (λ found. Step.word_of t.bytes found m >>= λ word. Step.acted m.flow.compiling word m) (found_gives m s t.bytes (searched (dict_of m) t.bytes) refl)
-    (λ found f. leads_given (dict_of m) Means (Step.word_of t.bytes found m) (λ word. Step.acted m.flow.compiling word m) (word-gives m s t.bytes found f)
-    (λ word k. acted-leads m s m.flow.compiling refl word k)))
+    (λ found f. leads_given (dict_of m) Means (Step.word_of t.bytes found m) (λ word. Step.acted m.flow.compiling word m) (word_gives m s t.bytes found f)
+    (λ word k. acted_leads m s m.flow.compiling refl word k)))
 
 -- a step, faults apart
 
@@ -159,7 +159,7 @@ step_goes m s =
 -- what a fault leaves
 
 pub cleared_steady : (m m' : Machine) → Steady m → Keeps m (cleared m') → Steady (cleared m')
-unfolding changedBy
+unfolding changed_by
 cleared_steady m m' s k = record {
   came = subst (Run boot_dict) (sym k.dictionary) (law.and_then give_up s.came tt);
   compiles = λ c. absurd (false≢true c);

@@ -161,11 +161,11 @@ found_gives Q m (hit e) g h = h e refl
 -- what a word has taken
 abbrev pub Facts : Takes → Argument → Type 0
 Facts Kernel.nothing a = Unit {0}
-Facts Kernel.aName a = is_name a.bytes ≡ true
-Facts Kernel.aWord a = token_of a.machine.low a.entry < 65536
-Facts Kernel.aForgettable a = InThread a.machine a.entry
-Facts Kernel.toParen a = Unit {0}
-Facts Kernel.toQuote a = (length a.bytes ≤ 255) × Bytes a.bytes
+Facts Kernel.a_name a = is_name a.bytes ≡ true
+Facts Kernel.a_word a = token_of a.machine.low a.entry < 65536
+Facts Kernel.a_forgettable a = InThread a.machine a.entry
+Facts Kernel.to_paren a = Unit {0}
+Facts Kernel.to_quote a = (length a.bytes ≤ 255) × Bytes a.bytes
 
 abbrev pub Took : Takes → Machine → Argument → Type 0
 Took t m a = Kept m a.machine × Facts t a
@@ -173,16 +173,16 @@ Took t m a = Kept m a.machine × Facts t a
 pub taken_gives : (t : Takes) (m : Machine) → Steady m → Gives (Took t m) (taken t m)
 unfolding taken
 taken_gives Kernel.nothing m s = ((s, refl), tt)
-taken_gives Kernel.aName m s = named_gives (Took Kernel.aName m) m _ (λ h. ((next_steady m s, refl), h))
-taken_gives Kernel.aWord m s =
-    named_gives (Took Kernel.aWord m) m _ (λ h.
-    found_gives (Took Kernel.aWord m) (next_word m).machine (searched (dict_of m) (next_word m).bytes) _ (λ e f. ((next_steady m s, refl), found_token m s (next_word m).bytes e f)))
-taken_gives Kernel.aForgettable m s =
-    named_gives (Took Kernel.aForgettable m) m _ (λ h.
-    found_gives (Took Kernel.aForgettable m) (next_word m).machine (search_in m.low m.order.current (next_word m).bytes) _ (λ w f. forgettable w (found_walk m s (next_word m).bytes w f) _))
+taken_gives Kernel.a_name m s = named_gives (Took Kernel.a_name m) m _ (λ h. ((next_steady m s, refl), h))
+taken_gives Kernel.a_word m s =
+    named_gives (Took Kernel.a_word m) m _ (λ h.
+    found_gives (Took Kernel.a_word m) (next_word m).machine (searched (dict_of m) (next_word m).bytes) _ (λ e f. ((next_steady m s, refl), found_token m s (next_word m).bytes e f)))
+taken_gives Kernel.a_forgettable m s =
+    named_gives (Took Kernel.a_forgettable m) m _ (λ h.
+    found_gives (Took Kernel.a_forgettable m) (next_word m).machine (search_in m.low m.order.current (next_word m).bytes) _ (λ w f. forgettable w (found_walk m s (next_word m).bytes w f) _))
   where
-    forgettable : (w : ℕ) → InThread m w → (b : Bool) → Gives (Took Kernel.aForgettable m) (ask (next_word m).machine BrokenLink b >> given (record { machine = (next_word m).machine; bytes = (next_word m).bytes; entry = w }))
+    forgettable : (w : ℕ) → InThread m w → (b : Bool) → Gives (Took Kernel.a_forgettable m) (ask (next_word m).machine BrokenLink b >> given (record { machine = (next_word m).machine; bytes = (next_word m).bytes; entry = w }))
     forgettable w t true = ((next_steady m s, refl), record { thread = t.thread; thread_lt = t.thread_lt; walk = t.walk })
     forgettable w t false = tt
-taken_gives Kernel.toParen m s = gives_on (Quoted 1024 m) (Took Kernel.toParen m) (take_to 41 1024 m) _ (text_gives 41 1024 m s) (λ t k. (k.0, tt))
-taken_gives Kernel.toQuote m s = gives_on (Quoted 255 m) (Took Kernel.toQuote m) (take_to 34 255 m) _ (text_gives 34 255 m s) (λ t k. (k.0, k.1))
+taken_gives Kernel.to_paren m s = gives_on (Quoted 1024 m) (Took Kernel.to_paren m) (take_to 41 1024 m) _ (text_gives 41 1024 m s) (λ t k. (k.0, tt))
+taken_gives Kernel.to_quote m s = gives_on (Quoted 255 m) (Took Kernel.to_quote m) (take_to 34 255 m) _ (text_gives 34 255 m s) (λ t k. (k.0, k.1))

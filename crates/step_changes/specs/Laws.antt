@@ -7,7 +7,7 @@ use Rattle.store.specs.Meaning.{Meaning}
 use Rattle.dictionary.specs.Dict.{Dict, next_entry, given_up}
 use Rattle.dictionary.specs.Trim.{forgotten}
 use Rattle.forgetting.specs.Changes.{Change, colon, define, vocabulary, append, patch, semicolon, immediate, does, allot, seek, definitions, forget, give_up, Allowed, with_here}
-use Rattle.forgetting.specs.Changes.{changed as changedBy}
+use Rattle.forgetting.specs.Changes.{changed as changed_by}
 use Rattle.forgetting.specs.Law.{fence, Begin, Same}
 use Rattle.definition.specs.Machine.{Machine, dict_of}
 use Rattle.definition.specs.Asked.{After, News, no_news, began, forgot}
@@ -38,7 +38,7 @@ Quiet give_up = ⊥
 -- allowed changes of that kind, one after the other
 pub data Quietly (D : Dict) : Dict → Type 0 where
   stays : Quietly D D
-  and_then : {A : Dict} (c : Change) → Quietly D A → Allowed fence c A → Quiet c → Quietly D (changedBy c A)
+  and_then : {A : Dict} (c : Change) → Quietly D A → Allowed fence c A → Quiet c → Quietly D (changed_by c A)
 
 -- The word e, the next entry, begins by one allowed change. VARIABLE then allots data space.
 pub record Begins (e : ℕ) (D E : Dict) : Type 0 where
@@ -46,7 +46,7 @@ pub record Begins (e : ℕ) (D E : Dict) : Type 0 where
   pub change : Change
   pub begin : Begin change
   pub allowed : Allowed fence change D
-  pub behind : (E ≡ changedBy change D) ⊎ ((h : ℕ) × (E ≡ with_here h (changedBy change D)) × ((changedBy change D).opened ≡ 0))
+  pub behind : (E ≡ changed_by change D) ⊎ ((h : ℕ) × (E ≡ with_here h (changed_by change D)) × ((changed_by change D).opened ≡ 0))
 
 -- the dictionary before and after a step with this news
 abbrev pub Turns : News → Dict → Dict → Type 0

@@ -126,34 +126,34 @@ module _ (r : Registers) (i : List ℕ) (li : length i ≡ 65536) (b n f end L :
   size_is : L ≡ text_length r.seat
   size_is = pl ∙ ap length px ∙ text_long r i li
 
-  rest-long : length rest ≡ text_length r.seat - r.seat.source.position.offset
-  rest-long = length-drop r.seat.source.position.offset (text_in r.seat i) ∙ ap (λ z. z - r.seat.source.position.offset) (text_long r i li)
+  rest_long : length rest ≡ text_length r.seat - r.seat.source.position.offset
+  rest_long = length-drop r.seat.source.position.offset (text_in r.seat i) ∙ ap (λ z. z - r.seat.source.position.offset) (text_long r i li)
 
   late_by : (v : Bool) → ltb end L ≡ v → (ltb end L && leb end (f + n)) ≡ false → (length rest ≤ run) ⊎ (n < run)
   late_by true h g = inr (let e = end_is in let g' : (true && leb end (f + n)) ≡ false = ap (λ z. z && leb end (f + n)) (sym h) ∙ g in let k : f + n < end = grind (arith, nat_tests) in omega arith)
-  late_by false h g = inl (let e = end_is in let z = size_is in let l = rest-long in let k : L ≤ end = grind (arith, nat_tests) in omega arith)
+  late_by false h g = inl (let e = end_is in let z = size_is in let l = rest_long in let k : L ≤ end = grind (arith, nat_tests) in omega arith)
 
   pub too_late : (e : Fault) → (ltb end L && leb end (f + n)) ≡ false → e ≡ fault_of NothingFollows (told_by r.seat) → TookTo b n r i (Err e) r
   too_late e g q = λ c t k s.
       rw (came_not b n (seen r i c t k s) rest (ap (drop r.seat.source.position.offset) (text_seen r i c t k s)) (late_by (ltb end L) refl g)) (q, refl)
 
   module _ (g : (ltb end L && leb end (f + n)) ≡ true) where
-    before-end : end < L
-    before-end = grind (arith, nat_tests)
+    before_end : end < L
+    before_end = grind (arith, nat_tests)
 
     near : end ≤ f + n
     near = grind (arith, nat_tests)
 
     pub end_short : end + 1 ≤ 1024
-    end_short = let a = before-end in let z = size_is in let m = text_short r in omega arith
+    end_short = let a = before_end in let z = size_is in let m = text_short r in omega arith
 
     pub taken_to : (start : ℕ) (r' : Registers) → start ≡ text_start r.seat → r'.shared ≡ r.shared → r'.seat ≡ read_to (end + 1) r.seat.source.word r.seat → TookTo b n r i (Ok (start + f, start + end)) r'
     taken_to start r' ps u w =
-        let a = before-end in
+        let a = before_end in
         let d = near in
         let e = end_is in
         let z = size_is in
-        let l = rest-long in
+        let l = rest_long in
         let lo = text_low r in (
           omega arith,
           omega arith,

@@ -34,63 +34,63 @@ module _ (r : Registers) (i c : List ℕ) (li : length i ≡ 65536) (lc : length
   inside_is : (t : List ℕ) (k : List Mark) (s : Meaning) (a n : ℕ) (b : Bool) → inside a n r.shared.ends.dp ≡ b → in_dictionary a n (seen r i c t k s) ≡ b
   inside_is t k s a n b p = ap (λ d. leb 256 a && leb (a + n) d) low_long ∙ p
 
-  created-no : (m : Machine) (a : ℕ) → in_dictionary a 4 m ≡ false → other_word 202 a m ≡ refused BadToken m
-  created-no m a h = rw h
+  created_no : (m : Machine) (a : ℕ) → in_dictionary a 4 m ≡ false → other_word 202 a m ≡ refused BadToken m
+  created_no m a h = rw h
 
-  created-yes : (m : Machine) (a : ℕ) → in_dictionary a 4 m ≡ true → other_word 202 a m ≡ replaced 0 (cell_at m.low (a + 2) ∷ []) m
-  created-yes m a h = rw h
+  created_yes : (m : Machine) (a : ℕ) → in_dictionary a 4 m ≡ true → other_word 202 a m ≡ replaced 0 (cell_at m.low (a + 2) ∷ []) m
+  created_yes m a h = rw h
 
-  constant-no : (m : Machine) (a : ℕ) → in_dictionary a 6 m ≡ false → other_word 203 a m ≡ refused BadToken m
-  constant-no m a h = rw h
+  constant_no : (m : Machine) (a : ℕ) → in_dictionary a 6 m ≡ false → other_word 203 a m ≡ refused BadToken m
+  constant_no m a h = rw h
 
-  constant-yes : (m : Machine) (a : ℕ) → in_dictionary a 6 m ≡ true → other_word 203 a m ≡ replaced 0 (cell_at m.low (a + 4) ∷ []) m
-  constant-yes m a h = rw h
+  constant_yes : (m : Machine) (a : ℕ) → in_dictionary a 6 m ≡ true → other_word 203 a m ≡ replaced 0 (cell_at m.low (a + 4) ∷ []) m
+  constant_yes m a h = rw h
 
   abbrev Leaves : Registers → List ℕ → ℕ → Result (Unit {0}) Fault → Type 0
   Leaves r' c' x o = (i t : List ℕ) (k : List Mark) (s : Meaning) → Does (replaced 0 (x ∷ [])) (seen r i c t k s) o (seen r' i c' t k s)
 
   pub created_bad : (a : ℕ) (e : Fault) → inside a 4 r.shared.ends.dp ≡ false → e ≡ fault_of BadToken (told_by r.seat) → (t : List ℕ) (k : List Mark) (s : Meaning) → Does (other_word 202 a) (seen r i c t k s) (Err e) (seen r i c t k s)
-  created_bad a e h p t k s = refused_at (other_word 202 a) (seen r i c t k s) e BadToken (created-no (seen r i c t k s) a (inside_is t k s a 4 false h)) p
+  created_bad a e h p t k s = refused_at (other_word 202 a) (seen r i c t k s) e BadToken (created_no (seen r i c t k s) a (inside_is t k s a 4 false h)) p
 
   pub created_done : (r' : Registers) (c' : List ℕ) (a x : ℕ) (o : Result (Unit {0}) Fault) → inside a 4 r.shared.ends.dp ≡ true → x ≡ cell_at i (a + 2) → Leaves r' c' x o → (t : List ℕ) (k : List Mark) (s : Meaning) → Does (other_word 202 a) (seen r i c t k s) o (seen r' i c' t k s)
   created_done r' c' a x o h p g t k s =
       let w = inside_tells a 4 r.shared.ends.dp h in
       let e : cell_at (low_of r.shared.ends.dp i) (a + 2) ≡ x = cell_low r.shared.ends.dp i (a + 2) (omega (arith, w.0)) (omega (arith, w.1)) ∙ sym p in
-      does_like (other_word 202 a) (replaced 0 (x ∷ [])) (seen r i c t k s) (seen r' i c' t k s) o (created-yes (seen r i c t k s) a (inside_is t k s a 4 true h) ∙ ap (λ y. replaced 0 (y ∷ []) (seen r i c t k s)) e) (g i t k s)
+      does_like (other_word 202 a) (replaced 0 (x ∷ [])) (seen r i c t k s) (seen r' i c' t k s) o (created_yes (seen r i c t k s) a (inside_is t k s a 4 true h) ∙ ap (λ y. replaced 0 (y ∷ []) (seen r i c t k s)) e) (g i t k s)
 
   pub constant_bad : (a : ℕ) (e : Fault) → inside a 6 r.shared.ends.dp ≡ false → e ≡ fault_of BadToken (told_by r.seat) → (t : List ℕ) (k : List Mark) (s : Meaning) → Does (other_word 203 a) (seen r i c t k s) (Err e) (seen r i c t k s)
-  constant_bad a e h p t k s = refused_at (other_word 203 a) (seen r i c t k s) e BadToken (constant-no (seen r i c t k s) a (inside_is t k s a 6 false h)) p
+  constant_bad a e h p t k s = refused_at (other_word 203 a) (seen r i c t k s) e BadToken (constant_no (seen r i c t k s) a (inside_is t k s a 6 false h)) p
 
   pub constant_done : (r' : Registers) (c' : List ℕ) (a x : ℕ) (o : Result (Unit {0}) Fault) → inside a 6 r.shared.ends.dp ≡ true → x ≡ cell_at i (a + 4) → Leaves r' c' x o → (t : List ℕ) (k : List Mark) (s : Meaning) → Does (other_word 203 a) (seen r i c t k s) o (seen r' i c' t k s)
   constant_done r' c' a x o h p g t k s =
       let w = inside_tells a 6 r.shared.ends.dp h in
       let e : cell_at (low_of r.shared.ends.dp i) (a + 4) ≡ x = cell_low r.shared.ends.dp i (a + 4) (omega (arith, w.0)) (omega (arith, w.1)) ∙ sym p in
-      does_like (other_word 203 a) (replaced 0 (x ∷ [])) (seen r i c t k s) (seen r' i c' t k s) o (constant-yes (seen r i c t k s) a (inside_is t k s a 6 true h) ∙ ap (λ y. replaced 0 (y ∷ []) (seen r i c t k s)) e) (g i t k s)
+      does_like (other_word 203 a) (replaced 0 (x ∷ [])) (seen r i c t k s) (seen r' i c' t k s) o (constant_yes (seen r i c t k s) a (inside_is t k s a 6 true h) ∙ ap (λ y. replaced 0 (y ∷ []) (seen r i c t k s)) e) (g i t k s)
 
   -- >BODY
   abbrev token : ℕ
   token = get_or (stack_of r.seat.depths.cells c) 0 0
 
-  body-short-at : (again : ℕ → Machine → Asked After) (a : Argument) (m : Machine) → has_cells 1 m ≡ false → acts 61 again a m ≡ refused StackUnderflow m
+  body_short_at : (again : ℕ → Machine → Asked After) (a : Argument) (m : Machine) → has_cells 1 m ≡ false → acts 61 again a m ≡ refused StackUnderflow m
   unfolding perform
-  body-short-at again a m h = rw h
+  body_short_at again a m h = rw h
 
-  body-no : (again : ℕ → Machine → Asked After) (a : Argument) (m : Machine) → has_cells 1 m ≡ true → (in_dictionary (nth 0 m) 4 m && (eqb (cell_at m.low (nth 0 m)) 202 || eqb (cell_at m.low (nth 0 m)) 205)) ≡ false → acts 61 again a m ≡ refused BadToken m
+  body_no : (again : ℕ → Machine → Asked After) (a : Argument) (m : Machine) → has_cells 1 m ≡ true → (in_dictionary (nth 0 m) 4 m && (eqb (cell_at m.low (nth 0 m)) 202 || eqb (cell_at m.low (nth 0 m)) 205)) ≡ false → acts 61 again a m ≡ refused BadToken m
   unfolding perform
-  body-no again a m h k = rw (h, k)
+  body_no again a m h k = rw (h, k)
 
-  body-yes : (again : ℕ → Machine → Asked After) (a : Argument) (m : Machine) → has_cells 1 m ≡ true → (in_dictionary (nth 0 m) 4 m && (eqb (cell_at m.low (nth 0 m)) 202 || eqb (cell_at m.low (nth 0 m)) 205)) ≡ true → acts 61 again a m ≡ replaced 1 (cell_at m.low (nth 0 m + 2) ∷ []) m
+  body_yes : (again : ℕ → Machine → Asked After) (a : Argument) (m : Machine) → has_cells 1 m ≡ true → (in_dictionary (nth 0 m) 4 m && (eqb (cell_at m.low (nth 0 m)) 202 || eqb (cell_at m.low (nth 0 m)) 205)) ≡ true → acts 61 again a m ≡ replaced 1 (cell_at m.low (nth 0 m + 2) ∷ []) m
   unfolding perform
-  body-yes again a m h k = rw (h, k)
+  body_yes again a m h k = rw (h, k)
 
-  made-is : (t : List ℕ) (k : List Mark) (s : Meaning) (b : Bool) → made_by_create (low_of r.shared.ends.dp i) r.shared.ends.dp token ≡ b → (in_dictionary token 4 (seen r i c t k s) && (eqb (cell_at (low_of r.shared.ends.dp i) token) 202 || eqb (cell_at (low_of r.shared.ends.dp i) token) 205)) ≡ b
-  made-is t k s b p = ap (λ y. y && (eqb (cell_at (low_of r.shared.ends.dp i) token) 202 || eqb (cell_at (low_of r.shared.ends.dp i) token) 205)) (inside_is t k s token 4 (inside token 4 r.shared.ends.dp) refl) ∙ p
+  made_is : (t : List ℕ) (k : List Mark) (s : Meaning) (b : Bool) → made_by_create (low_of r.shared.ends.dp i) r.shared.ends.dp token ≡ b → (in_dictionary token 4 (seen r i c t k s) && (eqb (cell_at (low_of r.shared.ends.dp i) token) 202 || eqb (cell_at (low_of r.shared.ends.dp i) token) 205)) ≡ b
+  made_is t k s b p = ap (λ y. y && (eqb (cell_at (low_of r.shared.ends.dp i) token) 202 || eqb (cell_at (low_of r.shared.ends.dp i) token) 205)) (inside_is t k s token 4 (inside token 4 r.shared.ends.dp) refl) ∙ p
 
   pub body_short : (e : Fault) → r.seat.depths.cells < 1 → e ≡ fault_of StackUnderflow (told_by r.seat) → OnSpace 61 r i c (Err e) r i c
-  body_short e h p = λ again a t k s. refused_at (acts 61 again a) (seen r i c t k s) e StackUnderflow (body-short-at again a (seen r i c t k s) (lacks_cells r i c t k s lc 1 h)) p
+  body_short e h p = λ again a t k s. refused_at (acts 61 again a) (seen r i c t k s) e StackUnderflow (body_short_at again a (seen r i c t k s) (lacks_cells r i c t k s lc 1 h)) p
 
   pub body_bad : (x : ℕ) (e : Fault) → 1 ≤ r.seat.depths.cells → x ≡ token → made_by_create (low_of r.shared.ends.dp i) r.shared.ends.dp x ≡ false → e ≡ fault_of BadToken (told_by r.seat) → OnSpace 61 r i c (Err e) r i c
-  body_bad x e h q g p = λ again a t k s. refused_at (acts 61 again a) (seen r i c t k s) e BadToken (body-no again a (seen r i c t k s) (has_cells_lem r i c t k s lc 1 h) (made-is t k s false (ap (made_by_create (low_of r.shared.ends.dp i) r.shared.ends.dp) (sym q) ∙ g))) p
+  body_bad x e h q g p = λ again a t k s. refused_at (acts 61 again a) (seen r i c t k s) e BadToken (body_no again a (seen r i c t k s) (has_cells_lem r i c t k s lc 1 h) (made_is t k s false (ap (made_by_create (low_of r.shared.ends.dp i) r.shared.ends.dp) (sym q) ∙ g))) p
 
   made_inside : (low : List ℕ) (dp x : ℕ) → made_by_create low dp x ≡ true → inside x 4 dp ≡ true
   made_inside low dp x p = grind (arith, nat_tests)
@@ -101,5 +101,5 @@ module _ (r : Registers) (i c : List ℕ) (li : length i ≡ 65536) (lc : length
       let g' : made_by_create (low_of r.shared.ends.dp i) r.shared.ends.dp token ≡ true = ap (made_by_create (low_of r.shared.ends.dp i) r.shared.ends.dp) (sym q) ∙ g in
       let b = inside_tells token 4 r.shared.ends.dp (made_inside (low_of r.shared.ends.dp i) r.shared.ends.dp token g') in
       let f : cell_at (low_of r.shared.ends.dp i) (token + 2) ≡ y = cell_low r.shared.ends.dp i (token + 2) (omega (arith, b.0)) (omega (arith, b.1)) ∙ ap (λ z. cell_at i (z + 2)) (sym q) ∙ sym v in
-      body-yes again a m (has_cells_lem r i c t k s lc 1 h) (made-is t k s true g') ∙ ap (λ z. replaced 1 (z ∷ []) m) f
+      body_yes again a m (has_cells_lem r i c t k s lc 1 h) (made_is t k s true g') ∙ ap (λ z. replaced 1 (z ∷ []) m) f
       ∙ rw (has_room_lem r i c t k s lc 1 1 h (omega (arith, r.cells))) (ap quietly (sym (cells_view r r' i c c' t k s _ _ u w e)))

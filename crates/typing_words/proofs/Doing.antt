@@ -36,7 +36,7 @@ dot_acts : Acts 49 Kernel.dot
 unfolding perform
 dot_acts again a m = refl
 
-u_dot_acts : Acts 50 Kernel.uDot
+u_dot_acts : Acts 50 Kernel.u_dot
 unfolding perform
 u_dot_acts again a m = refl
 
@@ -89,19 +89,19 @@ abbrev top : Registers → List ℕ → ℕ → ℕ
 top r c k = get_or (stack_of (deep r) c) k 0
 
 module _ (r : Registers) (i c : List ℕ) (li : length i ≡ 65536) (lc : length c ≡ 128) where
-  base-is : (t : List ℕ) (k : List Mark) (s : Meaning) → base (seen r i c t k s) ≡ cell_at i 32768
-  base-is t k s = cell_high r.shared.ends.here i 32768 (omega arith) (omega (arith, r.space))
+  base_is : (t : List ℕ) (k : List Mark) (s : Meaning) → base (seen r i c t k s) ≡ cell_at i 32768
+  base_is t k s = cell_high r.shared.ends.here i 32768 (omega arith) (omega (arith, r.space))
 
   pub number_short : (v : ℕ) (text : ℕ → ℕ → List ℕ) → TypesNumber v text → deep r < 1 → Comes v r i c (refused StackUnderflow)
   number_short v text z h = λ again a t k s. z.short again a (seen r i c t k s) (lacks_cells r i c t k s lc 1 h)
 
   pub number_bad : (v : ℕ) (text : ℕ → ℕ → List ℕ) → TypesNumber v text → 1 ≤ deep r → is_base (cell_at i 32768) ≡ false → Comes v r i c (refused BadBase)
-  number_bad v text z h p = λ again a t k s. z.bad again a (seen r i c t k s) (has_cells_lem r i c t k s lc 1 h) (ap is_base (base-is t k s) ∙ p)
+  number_bad v text z h p = λ again a t k s. z.bad again a (seen r i c t k s) (has_cells_lem r i c t k s lc 1 h) (ap is_base (base_is t k s) ∙ p)
 
   pub number_typed : (v : ℕ) (text : ℕ → ℕ → List ℕ) (b x : ℕ) → TypesNumber v text → 1 ≤ deep r → b ≡ cell_at i 32768 → is_base b ≡ true → x ≡ top r c 0 → Comes v r i c (λ m. typing (text b x ++ (32 ∷ [])) (popped 1 m))
   number_typed v text b x z h p q y = λ again a t k s.
       let m = seen r i c t k s in
-      let e : base m ≡ b = base-is t k s ∙ sym p in
+      let e : base m ≡ b = base_is t k s ∙ sym p in
       z.typed again a m (has_cells_lem r i c t k s lc 1 h) (ap is_base e ∙ q)
       ∙ ap (λ d. typing (text d (top r c 0) ++ (32 ∷ [])) (popped 1 m)) e
       ∙ ap (λ d. typing (text b d ++ (32 ∷ [])) (popped 1 m)) (sym y)
@@ -145,17 +145,17 @@ module _ (r : Registers) (i c : List ℕ) (li : length i ≡ 65536) (lc : length
       spaces_acts again a m ∙ rw (has_cells_lem r i c t k s lc 1 h) (ap (λ y. typing (replicate y 32) (popped 1 m)) e)
 
 -- (.")
-text_acts : (again : ℕ → Machine → Asked After) (a : Argument) (m : Machine) → acts 105 again a m ≡ do_inline Kernel.typeText m
+text_acts : (again : ℕ → Machine → Asked After) (a : Argument) (m : Machine) → acts 105 again a m ≡ do_inline Kernel.type_text m
 unfolding perform
 text_acts again a m = refl
 
-text_none : (m : Machine) → in_dictionary (ip m) 1 m ≡ false → do_inline Kernel.typeText m ≡ refused BadToken m
+text_none : (m : Machine) → in_dictionary (ip m) 1 m ≡ false → do_inline Kernel.type_text m ≡ refused BadToken m
 text_none m h = rw h
 
-text_cut : (m : Machine) → in_dictionary (ip m) 1 m ≡ true → in_dictionary (ip m) (at m.low (ip m) + 1) m ≡ false → do_inline Kernel.typeText m ≡ refused BadToken m
+text_cut : (m : Machine) → in_dictionary (ip m) 1 m ≡ true → in_dictionary (ip m) (at m.low (ip m) + 1) m ≡ false → do_inline Kernel.type_text m ≡ refused BadToken m
 text_cut m h k = rw (h, k)
 
-text_typed : (m : Machine) → in_dictionary (ip m) 1 m ≡ true → in_dictionary (ip m) (at m.low (ip m) + 1) m ≡ true → do_inline Kernel.typeText m ≡ typing (take (at m.low (ip m)) (drop (ip m + 1) m.low)) (with_ip (ip m + at m.low (ip m) + 1) m)
+text_typed : (m : Machine) → in_dictionary (ip m) 1 m ≡ true → in_dictionary (ip m) (at m.low (ip m) + 1) m ≡ true → do_inline Kernel.type_text m ≡ typing (take (at m.low (ip m)) (drop (ip m + 1) m.low)) (with_ip (ip m + at m.low (ip m) + 1) m)
 text_typed m h k = rw (h, k)
 
 either : (b : Bool) → (b ≡ true) ⊎ (b ≡ false)
@@ -176,31 +176,31 @@ module _ (r : Registers) (i c : List ℕ) (li : length i ≡ 65536) where
   abbrev end : ℕ
   end = r.shared.ends.dp
 
-  dictionary-is : (t : List ℕ) (k : List Mark) (s : Meaning) (n : ℕ) (b : Bool) → inside place n end ≡ b → in_dictionary place n (seen r i c t k s) ≡ b
-  dictionary-is t k s n b p = ap (λ d. leb 256 place && leb (place + n) d) (length_low end i (dp_bottom r) (omega (arith, r.top))) ∙ p
+  dictionary_is : (t : List ℕ) (k : List Mark) (s : Meaning) (n : ℕ) (b : Bool) → inside place n end ≡ b → in_dictionary place n (seen r i c t k s) ≡ b
+  dictionary_is t k s n b p = ap (λ d. leb 256 place && leb (place + n) d) (length_low end i (dp_bottom r) (omega (arith, r.top))) ∙ p
 
-  count-is : inside place 1 end ≡ true → at (low_of end i) place ≡ get_or i place 0
-  count-is p =
+  count_is : inside place 1 end ≡ true → at (low_of end i) place ≡ get_or i place 0
+  count_is p =
       let h = inside_within place 1 end p in
       get_or_low end i place h.0 (omega (arith, h.1))
 
   pub text_bad : inside place (get_or i place 0 + 1) end ≡ false → Comes 105 r i c (refused BadToken)
   text_bad p = λ again a t k s. text_acts again a (seen r i c t k s) ∙ by t k s (either (inside place 1 end))
     where
-      by : (t : List ℕ) (k : List Mark) (s : Meaning) → (inside place 1 end ≡ true) ⊎ (inside place 1 end ≡ false) → do_inline Kernel.typeText (seen r i c t k s) ≡ refused BadToken (seen r i c t k s)
-      by t k s (inl h) = text_cut (seen r i c t k s) (dictionary-is t k s 1 true h) (dictionary-is t k s (at (low_of end i) place + 1) false (ap (λ y. inside place (y + 1) end) (count-is h) ∙ p))
-      by t k s (inr h) = text_none (seen r i c t k s) (dictionary-is t k s 1 false h)
+      by : (t : List ℕ) (k : List Mark) (s : Meaning) → (inside place 1 end ≡ true) ⊎ (inside place 1 end ≡ false) → do_inline Kernel.type_text (seen r i c t k s) ≡ refused BadToken (seen r i c t k s)
+      by t k s (inl h) = text_cut (seen r i c t k s) (dictionary_is t k s 1 true h) (dictionary_is t k s (at (low_of end i) place + 1) false (ap (λ y. inside place (y + 1) end) (count_is h) ∙ p))
+      by t k s (inr h) = text_none (seen r i c t k s) (dictionary_is t k s 1 false h)
 
   pub text_fits : (n : ℕ) → n ≡ get_or i place 0 → inside place (n + 1) end ≡ true → Comes 105 r i c (λ m. typing (take n (drop (place + 1) i)) (with_ip (place + n + 1) m))
   text_fits n e p =
       let h = inside_within place (n + 1) end p in
       let q = inside_is place 1 end h.0 (omega (arith, h.1)) in
-      let f : at (low_of end i) place ≡ n = count-is q ∙ sym e in
+      let f : at (low_of end i) place ≡ n = count_is q ∙ sym e in
       let w : take n (drop (place + 1) (low_of end i)) ≡ take n (drop (place + 1) i) = low_part end (place + 1) n i (omega (arith, h.0)) (omega (arith, h.1)) in
       λ again a t k s.
       let m = seen r i c t k s in
       text_acts again a m
-      ∙ text_typed m (dictionary-is t k s 1 true q) (dictionary-is t k s (at (low_of end i) place + 1) true (ap (λ y. inside place (y + 1) end) f ∙ p))
+      ∙ text_typed m (dictionary_is t k s 1 true q) (dictionary_is t k s (at (low_of end i) place + 1) true (ap (λ y. inside place (y + 1) end) f ∙ p))
       ∙ ap (λ y. typing (take y (drop (place + 1) (low_of end i))) (with_ip (place + y + 1) m)) f
       ∙ ap (λ (y : List ℕ). typing y (with_ip (place + n + 1) m)) w
 

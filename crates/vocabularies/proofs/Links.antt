@@ -22,17 +22,17 @@ link_parts dp before k h =
 
 -- STEPS
 module _ (n : ℕ) (low : List ℕ) (dp before k : ℕ) where
-  order-end : k ≡ 0 → chain_in_order (suc n) low dp before k ≡ true
+  order_end : k ≡ 0 → chain_in_order (suc n) low dp before k ≡ true
   unfolding chain_in_order
-  order-end h = rw (eq-eqb k 0 h, chain_in_order) refl
+  order_end h = rw (eq-eqb k 0 h, chain_in_order) refl
 
-  order-broken : k ≢ 0 → link_in_order dp before k ≡ false → chain_in_order (suc n) low dp before k ≡ false
+  order_broken : k ≢ 0 → link_in_order dp before k ≡ false → chain_in_order (suc n) low dp before k ≡ false
   unfolding chain_in_order
-  order-broken h o = rw (ne_eqb k 0 h, chain_in_order) (rw o refl)
+  order_broken h o = rw (ne_eqb k 0 h, chain_in_order) (rw o refl)
 
-  order-next : k ≢ 0 → link_in_order dp before k ≡ true → chain_in_order (suc n) low dp before k ≡ chain_in_order n low dp k (cell_at low k)
+  order_next : k ≢ 0 → link_in_order dp before k ≡ true → chain_in_order (suc n) low dp before k ≡ chain_in_order n low dp k (cell_at low k)
   unfolding chain_in_order
-  order-next h o = rw (ne_eqb k 0 h, chain_in_order) (rw o refl)
+  order_next h o = rw (ne_eqb k 0 h, chain_in_order) (rw o refl)
 
 chain_end : (m : ℕ) (low : List ℕ) (k : ℕ) → k ≡ 0 → chain m low k ≡ []
 unfolding chain
@@ -77,7 +77,7 @@ walking_more low dp v before k x next found new ordered on w e z o f c = subst (
     go (suc n) l a (suc m) r g = let p = link_parts dp before k o in record {
       fuel = n;
       enough = omega arith;
-      asks = a ∙ order-next (suc n) low dp before k z o;
+      asks = a ∙ order_next (suc n) low dp before k z o;
       steps = m;
       many = omega arith;
       finds = g ∙ (ap (λ vs. found || member v vs) (chain_next m low k z) ∙ or_assoc found (eqb v (k - 8)) (member v (chain m low (cell_at low k))));
@@ -89,10 +89,10 @@ or_false false = refl
 
 pub walking_end : (low : List ℕ) (dp v before k : ℕ) (found ordered on : Bool) → Walking low dp v before k found ordered on → k ≡ 0 → (ordered ≡ true) × (on ≡ found)
 walking_end low dp v before k found ordered on w h =
-    (w.asks ∙ order-end w.fuel low dp before k h, w.finds ∙ (ap (λ vs. found || member v vs) (chain_end w.steps low k h) ∙ or_false found))
+    (w.asks ∙ order_end w.fuel low dp before k h, w.finds ∙ (ap (λ vs. found || member v vs) (chain_end w.steps low k h) ∙ or_false found))
 
 pub walking_broken : (low : List ℕ) (dp v before k : ℕ) (found ordered on : Bool) → Walking low dp v before k found ordered on → k ≢ 0 → link_in_order dp before k ≡ false → ordered ≡ false
-walking_broken low dp v before k found ordered on w h o = w.asks ∙ order-broken w.fuel low dp before k h o
+walking_broken low dp v before k found ordered on w h o = w.asks ∙ order_broken w.fuel low dp before k h o
 
 -- what the answer at one link says
 module _ (told : Place) (dp before e : ℕ) where

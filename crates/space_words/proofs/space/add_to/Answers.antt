@@ -12,7 +12,7 @@ pub returns-in_err-need : goal.returns-in_err-need
 returns-in_err-need c =
     let p = err_from_is_err_and c.from_residual.result c.from_residual.ensures.1 in
     let h = c.in_err-need.ensures in
-    record { did = rw (p.1, p.2) (space_short 36 Kernel.addTo add_acts c.args.registers.now c.args.image.now c.args.cells.now _ c.requires.1 (omega arith) h.0 h.1); below = refl }
+    record { did = rw (p.1, p.2) (space_short 36 Kernel.add_to add_acts c.args.registers.now c.args.image.now c.args.cells.now _ c.requires.1 (omega arith) h.0 h.1); below = refl }
 
 pub returns-in_err-reach : goal.returns-in_err-reach
 returns-in_err-reach c =
