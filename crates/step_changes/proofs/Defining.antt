@@ -25,7 +25,6 @@ use Rattle.definition.specs.Kernel.{DefiningWord}
 use Rattle.definition.specs.Boot as boots
 use Rattle.definition.specs.Boot.{kernel_token}
 use Rattle.definition.specs.Stacks.{nth, popped, has_cells}
-use Rattle.definition.specs.Space.{has_newest}
 use Rattle.definition.specs.Define.{fits, do_defining}
 use Rattle.step_changes.specs.Steady.{InOpen, Steady}
 use Rattle.step_changes.specs.Laws.{Quietly, stays, and_then, Begins, Turns}
@@ -217,7 +216,7 @@ module _ (m : Machine) (s : Steady m) where
       leads_ask _ _ _ (has_cells 1 m) _ (λ c. leads_ask _ _ _ (fits (9 + length name + 2) m) _ (λ h. define_leads (popped 1 m) (with_popped m s 1) k.0 name (named name k.1) 203 (nth 0 m) (lit< tt) (nth_cell m s 0) (leb-true _ 32768 h)))
   defining_leads Kernel.vocabulary name w k = leads_ask _ _ _ (fits (9 + length name + 10) m) _ (λ h. vocabulary_leads m s k.0 name (named name k.1) (leb-true _ 32768 h))
   defining_leads Kernel.definitions name w k = definitions_leads k
-  defining_leads Kernel.immediate name w k = quiet_if m s (has_newest m) (changed immediate_marked m) m (immediate_leads k) (stays, s)
+  defining_leads Kernel.immediate name w k = immediate_leads k
   defining_leads Kernel.forget name w k =
       let body = body_of m.low w in
       leads_ask _ _ _ (leb 34048 body && leb body (here m)) _ (λ g. leads_ask _ _ _ (leb boots.fence w) _ (λ f.

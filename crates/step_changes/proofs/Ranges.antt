@@ -65,8 +65,3 @@ bytes_set (x ∷ xs) zero b h k zero = h
 bytes_set (x ∷ xs) zero b h k (suc a) = k (suc a)
 bytes_set (x ∷ xs) (suc i) b h k zero = k zero
 bytes_set (x ∷ xs) (suc i) b h k (suc a) = bytes_set xs i b h (bytes_behind x xs k) a
-
-pub bytes_moved : (n from to : ℕ) (xs : List ℕ) → Bytes xs → Bytes (moved_up n from to xs)
-unfolding moved_up
-bytes_moved zero from to xs h = h
-bytes_moved (suc n) from to xs h = let k = bytes_moved n from to xs h in bytes_set (moved_up n from to xs) (to + n) (get_or (moved_up n from to xs) (from + n) 0) (k (from + n)) k

@@ -1,6 +1,7 @@
 -- What the definition keeps to itself, as it says it there, so that a proof can name it.
-use Rattle.std.proofs.Common.{ℕ, ◌+◌, Bool, true, false, ◌&&◌, eqb, leb, List, [], ◌∷◌, ◌++◌, length, drop, Some, None, Option}
+use Rattle.std.proofs.Common.{ℕ, zero, suc, ◌+◌, ◌-◌, Bool, true, false, ◌&&◌, eqb, leb, List, [], ◌∷◌, ◌++◌, length, take, drop, Some, None, Option}
 use Rattle.fault.specs.declared.Reason.TheVariants.{BadMark, DictionaryFull, NothingFollows}
+use Rattle.image.specs.Cells.{at}
 use Rattle.dictionary.specs.Dict.{Dict, appended, patched}
 use Rattle.definition.specs.declared.registers.Kind.{Kind}
 use Rattle.definition.specs.declared.registers.Kind.TheVariants.{If, Begin, While, Do}
@@ -54,6 +55,13 @@ structured kinds bs known new m = do
   ask m BadMark (leb (length marks) 32)
   ask m DictionaryFull (fits (length bs) m)
   quietly (with_marks marks (changed (λ D. resolved known (appended bs D)) m))
+
+abbrev pub put : List ℕ → ℕ → List ℕ → List ℕ
+put high a new = take (a - 32768) high ++ (new ++ drop (a - 32768 + length new) high)
+
+abbrev pub moved : ℕ → ℕ → ℕ → List ℕ → List ℕ
+moved zero from to high = high
+moved (suc n) from to high = moved n (from + 1) (to + 1) (put high to (at high (from - 32768) ∷ []))
 
 abbrev pub after_line : Asked Machine → Called
 after_line (refused why m) = record { reply = Calls.declined (fault_of why (told m)); busy = false; machine = m }

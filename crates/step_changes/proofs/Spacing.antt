@@ -1,10 +1,9 @@
 -- The words on data space.
-use Rattle.std.proofs.Common.{◌≡◌, ℕ, ◌+◌, ◌-◌, ◌%◌, ◌<◌, ◌≤◌, max, Bool, true, false, ◌&&◌, eqb, leb, ◌⊎◌, List, [], ◌∷◌, ◌++◌, length, take, replicate, subst, inl, inr, arith}
+use Rattle.std.proofs.Common.{◌≡◌, ℕ, zero, suc, ◌+◌, ◌-◌, ◌%◌, ◌<◌, ◌≤◌, max, Bool, true, false, ◌&&◌, eqb, leb, ◌⊎◌, List, [], ◌∷◌, ◌++◌, length, take, replicate, refl, ◌∙◌, subst, inl, inr, arith}
 use Rattle.std.proofs.ByRecursion.{All-weaker}
 use Rattle.std.proofs.lemmas.List.{length-append, length-take, length-replicate}
 use Rattle.std.proofs.lemmas.Bool.{leb-true, eqb-true, and_parts, or_cases}
-use Rattle.image.specs.Writes.{moved_up}
-use Rattle.image.proofs.Moving.{length_moved}
+use Rattle.image.specs.Writes.{overwritten}
 use Rattle.image.specs.Cells.{at, cell, cell_at, zeros, Bytes}
 use Rattle.entries.specs.Entries.{body_of}
 use Rattle.numbers.specs.Cells.{wrap, is_negative, magnitude}
@@ -17,10 +16,11 @@ use Rattle.definition.specs.Asked.{if◌then◌else◌}
 use Rattle.definition.specs.Kernel
 use Rattle.definition.specs.Kernel.{SpaceWord}
 use Rattle.definition.specs.Stacks.{nth, popped, has_cells}
-use Rattle.definition.specs.Space.{in_reach, stored, has_newest, do_space}
+use Rattle.definition.specs.Space.{in_reach, stored, do_space}
 use Rattle.step_changes.specs.Steady.{InOpen, Steady}
 use Rattle.step_changes.specs.Laws.{Quietly, stays, and_then}
-use Rattle.step_changes.proofs.Ranges.{bytes_cell, bytes_take, bytes_replicate, cell_below, length-cell, length_put, bytes_put, bytes_moved}
+use Rattle.step_changes.proofs.Ranges.{bytes_cell, bytes_take, bytes_replicate, cell_below, length-cell, length_put, bytes_put, bytes_none, bytes_more}
+use Rattle.step_changes.proofs.Restated.{put, moved}
 use Rattle.step_changes.proofs.Leading.{Leads, leads_ask, with_high_lem, same_dict, nth_cell, with_popped, replaced_leads}
 
 -- other bytes of data space, and HERE as it was
@@ -57,6 +57,7 @@ module _ (m : Machine) (s : Steady m) where
   put_fits a n new l (inr e) = inr (omega arith)
 
   stored_leads : (a n : ℕ) (new : List ℕ) → Bytes new → length new ≤ n → in_reach a n m ≡ true → Quietly (dict_of m) (dict_of (stored a new m)) × Steady (stored a new m)
+  unfolding overwritten
   stored_leads a n new b l r = high_leads m s _ (bytes_put (a - 32768) new m.high b s.space.bytes) (length_put (a - 32768) new m.high (put_fits a n new l (reach a n m r)))
 
   high_cell : (a : ℕ) → cell_at m.high a < 65536
@@ -69,14 +70,31 @@ short_bytes n x = simp length-take (omega arith)
 resized_long : (n : ℕ) (xs : List ℕ) → length (take n xs ++ zeros (n - length xs)) ≡ n
 resized_long n xs = simp (length-append, length-take, length-replicate) (omega arith)
 
-lowest_above : (b : Bool) (x a : ℕ) → (if b then max 34048 x else 34048) ≤ a → 34048 ≤ a
-lowest_above true x a h = omega arith
-lowest_above false x a h = h
+-- bytes moved one after the other stay bytes, as many as before
+bytes_moved : (n from to : ℕ) (xs : List ℕ) → Bytes xs → Bytes (moved n from to xs)
+unfolding overwritten
+bytes_moved zero from to xs h = h
+bytes_moved (suc n) from to xs h =
+    let new : List ℕ = at xs (from - 32768) ∷ [] in
+    bytes_moved n (from + 1) (to + 1) (put xs to new) (bytes_put (to - 32768) new xs (bytes_more (at xs (from - 32768)) [] (h (from - 32768)) bytes_none) h)
+
+length_moved : (n from to : ℕ) (xs : List ℕ) → (n ≡ 0) ⊎ ((32768 ≤ to) × (to - 32768 + n ≤ length xs)) → length (moved n from to xs) ≡ length xs
+unfolding overwritten
+length_moved zero from to xs h = refl
+length_moved (suc n) from to xs (inl h) = absurd (omega arith)
+length_moved (suc n) from to xs (inr h) =
+    let new : List ℕ = at xs (from - 32768) ∷ [] in
+    let p : length (put xs to new) ≡ length xs = length_put (to - 32768) new xs (inr (omega arith)) in
+    length_moved n (from + 1) (to + 1) (put xs to new) (inr (omega arith, omega (arith, p))) ∙ p
 
 module _ (m : Machine) (s : Steady m) where
   fetched_cell : (b : Bool) (a : ℕ) → (if b then at m.high a else cell_at m.high a) < 65536
   fetched_cell true a = omega (arith, s.space.bytes a)
   fetched_cell false a = high_cell m s a
+
+  within : {a n : ℕ} → (n ≡ 0) ⊎ ((32768 ≤ a) × (a + n ≤ here m)) → (n ≡ 0) ⊎ ((32768 ≤ a) × (a - 32768 + n ≤ length m.high))
+  within {n = n} {a = a} (inl h) = inl h
+  within {n = n} {a = a} (inr h) = inr (h.0, omega arith)
 
   -- what a word is given: ALLOT, `,` and C, no open entry, a base a cell
   abbrev pub Given : SpaceWord → Type 0
@@ -90,6 +108,7 @@ module _ (m : Machine) (s : Steady m) where
   Given (Kernel.set_base n) = n < 65536
 
   pub space_leads : (w : SpaceWord) → Given w → Leads (dict_of m) (do_space w m)
+  unfolding overwritten
   space_leads (Kernel.fetches n) z =
       leads_ask _ _ _ (has_cells 1 m) _ (λ h. leads_ask _ _ _ (in_reach (nth 0 m) n m) _ (λ g. replaced_leads m s 1 ((if eqb n 1 then at m.high (nth 0 m - 32768) else cell_at m.high (nth 0 m - 32768)) ∷ []) (fetched_cell (eqb n 1) (nth 0 m - 32768), tt)))
   space_leads (Kernel.stores n) z =
@@ -104,9 +123,9 @@ module _ (m : Machine) (s : Steady m) where
       leads_ask _ _ _ (has_cells 2 m) _ (λ h. leads_ask _ _ _ (in_reach (nth 0 m) 2 m) _ (λ g.
       stored_leads (popped 2 m) (with_popped m s 2) (nth 0 m) 2 (cell x) (bytes_cell x (omega arith)) (omega (arith, length-cell x)) g))
   space_leads Kernel.move z =
-      let xs = moved_up (nth 0 m) (nth 2 m - 32768) (nth 1 m - 32768) m.high in
+      let xs = moved (nth 0 m) (nth 2 m) (nth 1 m) m.high in
       leads_ask _ _ _ (has_cells 3 m) _ (λ h. leads_ask _ _ _ (in_reach (nth 2 m) (nth 0 m) m) _ (λ g. leads_ask _ _ _ (in_reach (nth 1 m) (nth 0 m) m) _ (λ f.
-      high_leads (popped 3 m) (with_popped m s 3) xs (bytes_moved (nth 0 m) _ _ m.high s.space.bytes) (length_moved (nth 0 m) _ _ m.high))))
+      high_leads (popped 3 m) (with_popped m s 3) xs (bytes_moved (nth 0 m) _ _ m.high s.space.bytes) (length_moved (nth 0 m) _ _ m.high (within (reach (nth 1 m) (nth 0 m) m f))))))
   space_leads Kernel.fill z =
       leads_ask _ _ _ (has_cells 3 m) _ (λ h. leads_ask _ _ _ (in_reach (nth 2 m) (nth 1 m) m) _ (λ g.
       stored_leads (popped 3 m) (with_popped m s 3) (nth 2 m) (nth 1 m) (replicate (nth 1 m) (nth 0 m % 256)) (bytes_replicate (nth 1 m) (nth 0 m % 256) (omega arith)) (simp length-replicate (omega arith)) g))
@@ -114,10 +133,10 @@ module _ (m : Machine) (s : Steady m) where
       high_leads m s _ (bytes_put 0 (cell n) m.high (bytes_cell n z) s.space.bytes) (length_put 0 (cell n) m.high (inr (omega (arith, length-cell n, s.space.long))))
   space_leads Kernel.allot z =
       let a = if is_negative (nth 0 m) then here m - magnitude (nth 0 m) else here m + nth 0 m in
-      let l = if has_newest m then max 34048 (body_of m.low m.names.newest) else 34048 in
+      let l = max 34048 (body_of m.low m.names.newest) in
       leads_ask _ _ _ (has_cells 1 m) _ (λ h. leads_ask _ _ _ (leb l a && leb a 65535) _ (λ g.
       let p = and_parts (leb l a) (leb a 65535) g in
-      let q : 34048 ≤ a = lowest_above (has_newest m) _ a (leb-true l a p.0) in
+      let q : 34048 ≤ a = omega (arith, leb-true l a p.0) in
       here_leads (popped 1 m) (with_popped m s 1) z (take (a - 32768) m.high ++ zeros (a - 32768 - length m.high))
       (append-bytes _ _ (bytes_take (a - 32768) m.high s.space.bytes) (bytes_replicate _ 0 (omega arith)))
       (omega (arith, resized_long (a - 32768) m.high)) (omega (arith, resized_long (a - 32768) m.high, leb-true a 65535 p.1))))
