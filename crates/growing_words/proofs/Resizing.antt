@@ -1,6 +1,6 @@
 -- The ends of ALLOT.
 use Rattle.std.proofs.Common.{◌≡◌, ℕ, ◌+◌, ◌-◌, ◌<◌, ◌≤◌, max, Bool, true, false, ◌&&◌, leb, ◌⊎◌, List, [], ◌∷◌, ◌++◌, length, get_or, take, drop, replicate, Ok, Err, sym, refl, ap, ◌∙◌, inl, inr, arith, take_all, take-take}
-use Rattle.std.proofs.lemmas.List.{append-nil, length-replicate}
+use Rattle.std.proofs.lemmas.List.{append-nil, length-replicate, get_or-replicate, get_or_append_left, get_or_past}
 use Rattle.std.proofs.lemmas.Bool.Decides.{leb_tells, nat_tests}
 use Rattle.fault.specs.declared.Fault.{Fault}
 use Rattle.fault.specs.declared.Reason.TheVariants.{StackUnderflow, DataFull}
@@ -9,7 +9,7 @@ use Rattle.store.specs.Meaning.{Meaning}
 use Rattle.stacks.specs.Stack.{stack_of}
 use Rattle.entries.specs.Entries.{first_at}
 use Rattle.entries.specs.Search.{in_order}
-use Rattle.image.specs.Cells.{zeros}
+use Rattle.image.specs.Cells.{at, zeros}
 use Rattle.image.specs.Views.{low_of, high_of, line_of}
 use Rattle.image.specs.Writes.{overwritten}
 use Rattle.image.proofs.Overwriting.{overwritten_none, take-before}
@@ -36,8 +36,8 @@ use Rattle.growing_words.proofs.Appending.{deep, end, built, here_is}
 byte_before : (dp a : ℕ) (xs : List ℕ) → a < 256 → at (low_of dp xs) a ≡ 0
 unfolding low_of
 byte_before dp a xs h =
-    let z : length (zeros 256) ≡ 256 = length-replicate 256 0 in
-    get_or_append_left (zeros 256) (drop 256 (take dp xs)) 0 a (omega arith) ∙ get_or-replicate 256 0 0 a h
+    let z : length (zeros 256) ≡ 256 = length-replicate {A = ℕ} 256 0 in
+    get_or_append_left (zeros 256) (drop 256 (take dp xs)) 0 a (omega arith) ∙ get_or-replicate 256 a 0 0 h
 
 byte_behind : (dp a : ℕ) (xs : List ℕ) → 256 ≤ dp → dp ≤ length xs → dp ≤ a → at (low_of dp xs) a ≡ 0
 byte_behind dp a xs b l h = get_or_past (low_of dp xs) a 0 (omega (arith, length_low dp xs b l))

@@ -93,8 +93,8 @@ module _ (m : Machine) (s : Steady m) where
   fetched_cell false a = high_cell m s a
 
   within : {a n : ℕ} → (n ≡ 0) ⊎ ((32768 ≤ a) × (a + n ≤ here m)) → (n ≡ 0) ⊎ ((32768 ≤ a) × (a - 32768 + n ≤ length m.high))
-  within {n = n} {a = a} (inl h) = inl h
-  within {n = n} {a = a} (inr h) = inr (h.0, omega arith)
+  within (inl h) = inl h
+  within (inr h) = inr (h.0, omega arith)
 
   -- what a word is given: ALLOT, `,` and C, no open entry, a base a cell
   abbrev pub Given : SpaceWord → Type 0
