@@ -1,5 +1,5 @@
 -- The ends of BLOCK, UPDATE and FLUSH.
-use Rattle.std.proofs.Common.{◌≡◌, ℕ, ◌+◌, ◌-◌, ◌<◌, ◌≤◌, Bool, true, false, List, [], ◌∷◌, length, get_or, drop, is_some, Some, None, Ok, Err, Option, Result, sym, refl, ap, ◌∙◌, subst, arith}
+use Rattle.std.proofs.Common.{◌≡◌, ℕ, ◌+◌, ◌-◌, ◌<◌, ◌≤◌, true, false, List, [], ◌∷◌, length, get_or, drop, is_some, Some, None, Ok, Err, Option, sym, refl, ap, ◌∙◌, subst}
 use Rattle.std.proofs.lemmas.Bool as Tests
 use Rattle.fault.specs.declared.Fault.{Fault}
 use Rattle.fault.specs.declared.Reason.TheVariants.{StackUnderflow, NotWritable}
@@ -10,7 +10,7 @@ use Rattle.definition.specs.declared.registers.Buffer.{Buffer}
 use Rattle.definition.specs.declared.registers.Mark.{Mark}
 use Rattle.definition.specs.declared.ranged.Registers.{Registers}
 use Rattle.definition.specs.Machine.{Machine, with_blocks, with_cells}
-use Rattle.definition.specs.Asked.{Asked, refused, given, ask, ◌>>=◌, ◌>>◌, After, no_news, quietly}
+use Rattle.definition.specs.Asked.{Asked, refused, ask, ◌>>=◌, ◌>>◌, After, no_news, quietly}
 use Rattle.definition.specs.Kernel
 use Rattle.definition.specs.Words.{Argument, perform}
 use Rattle.definition.specs.Stacks.{has_cells, nth, popped, pushed}

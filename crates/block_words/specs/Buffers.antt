@@ -1,5 +1,5 @@
 -- What it means that code brings a block in, and the numbers of the words.
-use Rattle.std.specs.Prelude.{◌≡◌, ℕ, Bool, false, List, length, Some, None, Ok, Err, Option, Result, ◌==◌}
+use Rattle.std.specs.Prelude.{◌≡◌, ℕ, Bool, false, List, Some, None, Ok, Err, Option, Result, ◌==◌}
 use Rattle.fault.specs.declared.Fault.{Fault}
 use Rattle.store.specs.Meaning.{Meaning}
 use Rattle.definition.specs.declared.registers.Buffer.{Buffer}

@@ -1,18 +1,15 @@
 -- What each group of words promises, as what executing by code promises.
-use Rattle.std.proofs.Common.{◌≡◌, ℕ, ◌-◌, Bool, true, false, ◌&&◌, leb, List, [], ◌∷◌, length, Ok, Err, Result, sym, refl, ap, ◌∙◌, subst}
+use Rattle.std.proofs.Common.{◌≡◌, ℕ, true, false, ◌&&◌, leb, List, [], length, Ok, Err, Result, sym, subst}
 use Rattle.fault.specs.declared.Fault.{Fault}
-use Rattle.fault.specs.declared.Reason.{Reason}
-use Rattle.fault.specs.Numbers.{fault_of}
 use Rattle.store.specs.Meaning.{Meaning}
 use Rattle.definition.specs.declared.registers.Mark.{Mark}
 use Rattle.definition.specs.declared.ranged.Registers.{Registers}
-use Rattle.definition.specs.Machine.{Machine, told}
-use Rattle.definition.specs.Asked.{Asked, refused, if◌then◌else◌, After}
+use Rattle.definition.specs.Machine.{Machine}
+use Rattle.definition.specs.Asked.{Asked, After}
 use Rattle.definition.specs.Words.{row_of, do_kernel, other_word}
 use Rattle.steps.specs.declared.progress.Progress.{Progress}
-use Rattle.steps.specs.Seats.{told_by}
-use Rattle.steps.specs.Does.{seen, acts, Does, Did, OnCells, OnSpace, OnBlocks, FromText, FromState}
-use Rattle.codes.specs.Performs.{coded, went_by, Memory, memory, Acts, Performs, FullKeeps}
+use Rattle.steps.specs.Does.{seen, acts, Does, Did, OnCells, OnSpace, OnBlocks}
+use Rattle.codes.specs.Performs.{coded, went_by, Memory, memory, Performs, FullKeeps}
 use Rattle.codes.proofs.Lifting.{Asking, bare, did_by, quiet, plain_did, kernel_does, if_false}
 
 -- a word that types nothing leaves no full output

@@ -1,11 +1,11 @@
 -- What each word acts: the kernel table, by group.
-use Rattle.std.proofs.Common.{◌≡◌, ℕ, eqb, List, [], ◌∷◌, length, refl}
+use Rattle.std.proofs.Common.{◌≡◌, ℕ, eqb, [], ◌∷◌, length, refl}
 use Rattle.definition.specs.Machine.{Machine, here}
 use Rattle.definition.specs.Asked.{Asked, After, if◌then◌else◌}
 use Rattle.definition.specs.Kernel
 use Rattle.definition.specs.Kernel.{CellsWord}
 use Rattle.definition.specs.Words.{Argument, perform}
-use Rattle.definition.specs.Stacks.{do_cells, replaced}
+use Rattle.definition.specs.Stacks.{do_cells}
 use Rattle.steps.specs.Does.{acts}
 use Rattle.data_words.specs.declared.words.LeavingWord.{LeavingWord}
 use Rattle.data_words.specs.declared.words.UnaryWord.{UnaryWord}

@@ -1,5 +1,5 @@
 -- The ends of a word on data cells, from what the code knows there.
-use Rattle.std.proofs.Common.{◌≡◌, ℕ, ◌+◌, ◌-◌, ◌<◌, ◌≤◌, true, false, List, [], ◌∷◌, length, drop, Ok, Err, Result, sym, refl, ap, ◌∙◌, arith}
+use Rattle.std.proofs.Common.{◌≡◌, ℕ, ◌+◌, ◌-◌, ◌<◌, ◌≤◌, List, [], ◌∷◌, length, drop, Ok, Err, Result, sym, ap, ◌∙◌, arith}
 use Rattle.fault.specs.declared.Fault.{Fault}
 use Rattle.fault.specs.declared.Reason.{Reason}
 use Rattle.fault.specs.declared.Reason.TheVariants.{StackUnderflow}
@@ -8,8 +8,8 @@ use Rattle.store.specs.Meaning.{Meaning}
 use Rattle.stacks.specs.Stack.{stack_of}
 use Rattle.definition.specs.declared.registers.Mark.{Mark}
 use Rattle.definition.specs.declared.ranged.Registers.{Registers}
-use Rattle.definition.specs.Machine.{Machine, with_cells}
-use Rattle.definition.specs.Asked.{Asked, refused, After, quietly}
+use Rattle.definition.specs.Machine.{with_cells}
+use Rattle.definition.specs.Asked.{refused, quietly}
 use Rattle.definition.specs.Kernel.{CellsWord}
 use Rattle.definition.specs.Stacks.{do_cells, replaced}
 use Rattle.steps.specs.Seats.{told_by, with_cell_depth}

@@ -1,5 +1,5 @@
 -- The end of each word, from what its questions and moves ensure.
-use Rattle.std.proofs.Common.{◌≡◌, ℕ, ◌+◌, ◌-◌, ◌<◌, ◌≤◌, true, false, eqb, leb, List, [], ◌∷◌, ◌++◌, length, get_or, drop, Some, None, Ok, Err, Result, sym, refl, ap, ◌∙◌, arith}
+use Rattle.std.proofs.Common.{◌≡◌, ℕ, ◌+◌, ◌-◌, ◌<◌, ◌≤◌, true, false, eqb, List, [], ◌∷◌, length, get_or, drop, Some, None, Ok, Err, Result, sym, refl, ap, ◌∙◌, arith}
 use Rattle.std.proofs.lemmas.Bool.Decides.{nat_tests}
 use Rattle.fault.specs.declared.Fault.{Fault}
 use Rattle.fault.specs.declared.Reason.TheVariants.{StackUnderflow, BadQuotient}
@@ -13,20 +13,18 @@ use Rattle.stacks.proofs.Laws.{length_stack}
 use Rattle.definition.specs.declared.registers.Mark.{Mark}
 use Rattle.definition.specs.declared.registers.Seat.{Seat}
 use Rattle.definition.specs.declared.ranged.Registers.{Registers}
-use Rattle.definition.specs.Machine.{Machine, with_cells}
-use Rattle.definition.specs.Asked.{quietly}
 use Rattle.definition.specs.Kernel
 use Rattle.definition.specs.Kernel.{CellsWord}
-use Rattle.definition.specs.Stacks.{replaced, nth, do_cells}
+use Rattle.definition.specs.Stacks.{replaced}
 use Rattle.steps.specs.Seats.{told_by, with_cell_depth}
 use Rattle.steps.specs.Does.{seen, Does, OnCells}
-use Rattle.steps.proofs.Exits.{depth_of, has_cells_lem, lacks_cells, has_room_lem, yes}
+use Rattle.steps.proofs.Exits.{depth_of, has_cells_lem, lacks_cells, has_room_lem}
 use Rattle.data_words.specs.declared.words.LeavingWord.{LeavingWord}
 use Rattle.data_words.specs.declared.words.UnaryWord.{UnaryWord}
 use Rattle.data_words.specs.declared.words.BinaryWord.{BinaryWord}
 use Rattle.data_words.specs.Numbers.{leaving_number, unary_number, binary_number}
 use Rattle.data_words.specs.Tables.{left_by, of_one, of_two}
-use Rattle.data_words.proofs.Acting.{Acts, leaving_acts, unary_acts, binary_acts, dup_acts, drop-acts, swap_acts, over_acts, rot_acts, question_dup_acts, pick_acts, roll_acts, slash_acts, modulo_acts, slash_mod_acts, times_slash_acts, dup_word, drop_word, swap_word, over_word, rot_word, question_dup_word}
+use Rattle.data_words.proofs.Acting.{Acts, leaving_acts, unary_acts, binary_acts, dup_acts, drop-acts, swap_acts, over_acts, rot_acts, question_dup_acts, pick_acts, roll_acts, slash_mod_acts, times_slash_acts, dup_word, drop_word, swap_word, over_word, rot_word, question_dup_word}
 use Rattle.data_words.proofs.Moves.{one_done, two_done, three_done, replaced_done, pick_deep, pick_done, roll_deep, roll_done, unfit, divided, unfit_scaled, scaled, none_fits, some_fits, dup_leaves, over_leaves, question_dup_leaves, question_dup_stays, swap_list, rot_list}
 use Rattle.data_words.proofs.Ends.{cells_refused, cells_done, cells_replaced, cells_left}
 

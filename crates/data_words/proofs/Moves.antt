@@ -1,15 +1,14 @@
 -- How the definition comes to the end of each word, at a machine whose questions are answered.
-use Rattle.std.proofs.Common.{◌≡◌, ℕ, zero, suc, ◌+◌, ◌-◌, ◌<◌, ◌≤◌, Bool, true, false, eqb, leb, List, [], ◌∷◌, ◌++◌, length, get_or, take, drop, Some, None, Option, sym, refl, ap, ◌∙◌, arith}
-use Rattle.std.proofs.lemmas.Bool.Decides.{nat_tests}
+use Rattle.std.proofs.Common.{◌≡◌, ℕ, ◌+◌, ◌<◌, ◌≤◌, Bool, true, false, eqb, leb, List, [], ◌∷◌, ◌++◌, length, get_or, drop, Some, None, Option, sym, refl, ap, ◌∙◌, arith}
 use Rattle.fault.specs.declared.Reason.TheVariants.{StackUnderflow, StackOverflow, BadQuotient}
 use Rattle.numbers.specs.Division.{Divided, signed, product, floored, answered}
 use Rattle.stacks.specs.Stack.{rolled}
 use Rattle.definition.specs.Machine.{Machine, with_cells}
-use Rattle.definition.specs.Asked.{Asked, refused, given, ask, ◌>>◌, After, quietly}
+use Rattle.definition.specs.Asked.{refused, ask, ◌>>◌, quietly}
 use Rattle.definition.specs.Kernel
 use Rattle.definition.specs.Kernel.{CellsWord}
 use Rattle.definition.specs.Stacks.{has_cells, has_room, popped, nth, replaced, do_cells}
-use Rattle.data_words.proofs.Acting.{dup_word, drop_word, swap_word, over_word, rot_word, question_dup_word}
+use Rattle.data_words.proofs.Acting.{dup_word, over_word, question_dup_word}
 
 -- how many cells a word takes
 abbrev pub takes_of : CellsWord → ℕ

@@ -12,7 +12,7 @@ use Rattle.dictionary.specs.Search.{searched}
 use Rattle.definition.specs.declared.registers.Buffer.{Buffer}
 use Rattle.definition.specs.declared.registers.Position.{Position}
 use Rattle.definition.specs.Machine.{Machine, ip, blk, dict_of, offset, reading_on, with_blocks}
-use Rattle.definition.specs.Asked.{Asked, refused, given, ask, ◌>>=◌, ◌>>◌, if◌then◌else◌, After, quietly, typing}
+use Rattle.definition.specs.Asked.{Asked, refused, given, ask, ◌>>=◌, ◌>>◌, if◌then◌else◌, After, quietly}
 use Rattle.definition.specs.Text.{Taken, buffer_of, is_name, take_name, take_to, next_word, no_word_left, ask_found, ask_there}
 use Rattle.numbers.specs.Text.{number_in}
 use Rattle.definition.specs.Kernel

@@ -1,5 +1,5 @@
 -- The machine at its beginning: FORTH at 256, then the kernel words in order.
-use Rattle.std.specs.Prelude.{ℕ, zero, suc, ◌+◌, false, List, [], ◌∷◌, ◌++◌, length, None, codes}
+use Rattle.std.specs.Prelude.{ℕ, zero, suc, ◌+◌, false, List, [], ◌∷◌, ◌++◌, length, None}
 use Rattle.store.specs.Meaning.{Meaning}
 use Rattle.image.specs.Cells.{cell, zeros}
 unfoldable pub use Rattle.kernel.specs.Boot.{boot_dict}

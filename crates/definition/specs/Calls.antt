@@ -8,7 +8,7 @@ use Rattle.dictionary.specs.Search.{searched}
 use Rattle.definition.specs.declared.registers.Source.{Source}
 use Rattle.definition.specs.Ranges.{line_start}
 use Rattle.definition.specs.Machine.{Machine, told, with_text, dict_of}
-use Rattle.definition.specs.Asked.{Asked, refused, given, ask, ◌>>=◌, ◌>>◌}
+use Rattle.definition.specs.Asked.{Asked, refused, given, ask, ◌>>◌}
 use Rattle.definition.specs.Text.{is_name, ask_found}
 use Rattle.definition.specs.Run
 use Rattle.definition.specs.Run.{End, Report, cleared}

@@ -8,7 +8,7 @@ use Rattle.definition.specs.declared.registers.Kind.{Kind}
 use Rattle.definition.specs.declared.registers.Kind.TheVariants.{If, Begin, While, Do}
 use Rattle.definition.specs.declared.registers.Mark.{Mark}
 use Rattle.definition.specs.Machine.{Machine, dp, with_marks, with_compiling, changed}
-use Rattle.definition.specs.Asked.{Asked, ask, ◌>>=◌, ◌>>◌, After, quietly}
+use Rattle.definition.specs.Asked.{Asked, ask, ◌>>◌, After, quietly}
 use Rattle.definition.specs.Kernel
 use Rattle.definition.specs.Kernel.{CompilingWord}
 use Rattle.definition.specs.Boot.{kernel_token}

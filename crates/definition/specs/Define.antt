@@ -6,7 +6,7 @@ use Rattle.entries.specs.Entries.{spelled, body_of}
 use Rattle.dictionary.specs.Dict.{colon_begun, open_joined, defined, vocabulary_defined, appended, immediate_marked, with_current}
 use Rattle.dictionary.specs.Trim.{forgotten}
 use Rattle.definition.specs.Machine.{Machine, dp, here, blk, with_high, with_compiling, changed}
-use Rattle.definition.specs.Asked.{Asked, ask, ◌>>=◌, ◌>>◌, began, forgot, After, quietly, telling}
+use Rattle.definition.specs.Asked.{Asked, ask, ◌>>◌, began, forgot, After, quietly, telling}
 use Rattle.definition.specs.Kernel
 use Rattle.definition.specs.Kernel.{DefiningWord}
 use Rattle.definition.specs.Boot.{fence, kernel_token}

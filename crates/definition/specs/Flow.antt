@@ -5,7 +5,7 @@ use Rattle.image.specs.Cells.{at, cell, cell_at}
 use Rattle.entries.specs.Entries.{token_of, first_at}
 use Rattle.dictionary.specs.Dict.{appended, does_set}
 use Rattle.definition.specs.Machine.{Machine, dp, ip, with_ip, changed}
-use Rattle.definition.specs.Asked.{Asked, ask, ◌>>=◌, ◌>>◌, if◌then◌else◌, After, quietly, typing}
+use Rattle.definition.specs.Asked.{Asked, ask, ◌>>◌, if◌then◌else◌, After, quietly, typing}
 use Rattle.numbers.specs.Cells.{wrap, minus, is_negative, magnitude}
 use Rattle.definition.specs.Kernel
 use Rattle.definition.specs.Kernel.{ReturnsWord, InlineWord}

@@ -4,7 +4,7 @@ use Rattle.fault.specs.declared.Reason.TheVariants.{StackUnderflow, OutOfReach, 
 use Rattle.image.specs.Cells.{at, cell, cell_at, zeros}
 use Rattle.entries.specs.Entries.{body_of}
 use Rattle.definition.specs.Machine.{Machine, with_high, here}
-use Rattle.definition.specs.Asked.{Asked, ask, ◌>>=◌, ◌>>◌, if◌then◌else◌, After, quietly, typing}
+use Rattle.definition.specs.Asked.{Asked, ask, ◌>>◌, if◌then◌else◌, After, quietly, typing}
 use Rattle.numbers.specs.Cells.{wrap, is_negative, magnitude}
 use Rattle.numbers.specs.Text.{is_base, signed_text, unsigned_text}
 use Rattle.definition.specs.Kernel

@@ -3,7 +3,7 @@ use Rattle.std.specs.Prelude.{ℕ, suc, ◌+◌, min, Bool, true, false, ◌&&�
 use Rattle.fault.specs.declared.Reason.TheVariants.{NothingFollows, BadName, BrokenLink, NotFound}
 use Rattle.entries.specs.Search.{Found, missing, broken, hit}
 use Rattle.definition.specs.Machine.{Machine, blk, offset, reading_on}
-use Rattle.definition.specs.Asked.{Asked, refused, given, ask, ◌>>=◌, ◌>>◌, if◌then◌else◌}
+use Rattle.definition.specs.Asked.{Asked, refused, given, ask, ◌>>◌, if◌then◌else◌}
 
 -- the block buffer, at 33,024
 abbrev pub buffer_of : Machine → List ℕ

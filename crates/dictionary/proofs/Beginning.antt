@@ -1,14 +1,14 @@
 -- Laws of entries that begin and join.
-use Rattle.std.proofs.Common.{◌≡◌, ℕ, ◌+◌, ◌-◌, ◌*◌, ◌/◌, ◌%◌, ◌<◌, ◌≤◌, Bool, true, false, cond, eqb, leb, List, [], ◌∷◌, ◌++◌, length, take, set, Ok, Err, Result, sym, refl, ap, ◌∙◌, arith}
-use Rattle.std.proofs.lemmas.List.{append_assoc, append-nil, length-set}
+use Rattle.std.proofs.Common.{◌≡◌, ℕ, ◌+◌, ◌-◌, ◌/◌, ◌%◌, ◌≤◌, Bool, true, false, cond, eqb, leb, List, [], ◌∷◌, ◌++◌, length, take, set, Ok, Err, Result, sym, refl, ap, ◌∙◌, arith}
+use Rattle.std.proofs.lemmas.List.{append_assoc, length-set}
 use Rattle.std.proofs.lemmas.Bool.{leb-true, ne_eqb, cond-true, cond-false, false≢true}
 use Rattle.fault.specs.declared.Fault.{Fault}
 use Rattle.fault.specs.declared.Place.{Place}
 use Rattle.fault.specs.declared.Reason.TheVariants.{DictionaryFull}
 use Rattle.fault.specs.Numbers.{fault_of}
 use Rattle.image.specs.Cells.{at, cell_at, cell, set_cell, zeros}
-use Rattle.entries.specs.Entries.{count_byte, entry_bytes, head_at}
-use Rattle.dictionary.specs.Dict.{Dict, appended, begun, joined, defined, colon_begun, vocabulary_defined, given_up, thread_of, next_entry, with_low, with_newest, with_voc_link, with_context, with_opened}
+use Rattle.entries.specs.Entries.{count_byte, entry_bytes}
+use Rattle.dictionary.specs.Dict.{Dict, appended, begun, defined, colon_begun, vocabulary_defined, given_up, thread_of, next_entry, with_low, with_voc_link, with_context, with_opened}
 use Rattle.dictionary.specs.Kept.{kept_end}
 use Rattle.image.specs.Views.{low_of}
 use Rattle.dictionary.proofs.Changing.{low_cut}

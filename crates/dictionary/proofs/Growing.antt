@@ -1,15 +1,15 @@
 -- Laws of a dictionary that grows at DP.
-use Rattle.std.proofs.Common.{◌≡◌, ℕ, ◌+◌, ◌-◌, ◌/◌, ◌%◌, ◌<◌, ◌≤◌, cond, leb, List, [], ◌∷◌, ◌++◌, length, take, drop, Ok, Err, Result, sym, refl, ap, ◌∙◌, arith}
+use Rattle.std.proofs.Common.{◌≡◌, ℕ, ◌+◌, ◌-◌, ◌/◌, ◌%◌, ◌<◌, ◌≤◌, leb, List, [], ◌∷◌, ◌++◌, length, take, drop, Ok, Err, Result, sym, refl, ap, ◌∙◌, arith}
 use Rattle.std.proofs.lemmas.List.{append_assoc, append-nil, drop-take}
 use Rattle.std.proofs.lemmas.Bool.{le-leb, lt-leb, cond-true, cond-false}
 use Rattle.fault.specs.declared.Fault.{Fault}
 use Rattle.fault.specs.declared.Place.{Place}
 use Rattle.fault.specs.declared.Reason.TheVariants.{DictionaryFull}
 use Rattle.fault.specs.Numbers.{fault_of}
-use Rattle.image.specs.Cells.{cell, set_cell}
+use Rattle.image.specs.Cells.{cell}
 use Rattle.image.specs.Writes.{overwritten}
 use Rattle.image.specs.Views.{line_of, high_of}
-use Rattle.image.proofs.Overwriting.{take-before, drop_behind, overwritten_cell}
+use Rattle.image.proofs.Overwriting.{take-before, drop_behind}
 use Rattle.dictionary.specs.Dict.{Dict, appended, with_low}
 use Rattle.dictionary.specs.Lent.{Outside, with_room, Did}
 

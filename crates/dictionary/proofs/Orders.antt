@@ -1,13 +1,11 @@
 -- Laws of the search order.
-use Rattle.std.proofs.Common.{◌≡◌, ℕ, true, false, List, Some, None, Ok, Err, Option, Result, sym, refl, ap, ◌∙◌}
+use Rattle.std.proofs.Common.{◌≡◌, ℕ, Some, None, Ok, Err, Option, Result, sym, refl, ap, ◌∙◌}
 use Rattle.std.proofs.lemmas.Bool.{false≢true}
 use Rattle.fault.specs.declared.Fault.{Fault}
 use Rattle.fault.specs.declared.Place.{Place}
-use Rattle.entries.specs.Entries.{forth}
-use Rattle.entries.specs.Search.{Found, missing, broken, hit, search_in}
+use Rattle.entries.specs.Search.{Found, missing, broken, hit}
 use Rattle.entries.specs.Threads.{answered}
-use Rattle.dictionary.specs.Dict.{Dict}
-use Rattle.dictionary.specs.Search.{or_else, searched}
+use Rattle.dictionary.specs.Search.{or_else}
 
 -- what an answer says of what was found
 pub answer_some : (told : Place) (f : Found) (e : ℕ) → Ok (Some e) ≡ answered told f → f ≡ hit e

@@ -1,5 +1,5 @@
 -- Parts of a change: an entry up to its code cell, and the thread it joins by its number.
-use Rattle.std.specs.Prelude.{ℕ, ◌+◌, ◌*◌, List, [], ◌∷◌, ◌++◌}
+use Rattle.std.specs.Prelude.{ℕ, ◌+◌, ◌*◌, List, ◌∷◌, ◌++◌}
 use Rattle.image.specs.Cells.{at, cell_at, cell, set_cell}
 use Rattle.entries.specs.Entries.{count_byte}
 use Rattle.dictionary.specs.Dict.{Dict, appended, thread_of, with_low, with_newest}

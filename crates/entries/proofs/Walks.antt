@@ -6,7 +6,7 @@ use Rattle.fault.specs.declared.Place.{Place}
 use Rattle.image.specs.Cells.{at, cell_at}
 use Rattle.entries.specs.Entries.{head_at, spelled, first_at, is_named}
 use Rattle.entries.specs.Search.{Found, missing, broken, hit, in_order, walk, search_in}
-use Rattle.entries.specs.Threads.{Walk, stop, next, Sound, Youngest, FindsYoungest, answered, linked}
+use Rattle.entries.specs.Threads.{Walk, stop, next, Youngest, FindsYoungest, answered, linked}
 
 -- what being in order says
 pub in_parts : (low : List ℕ) (dp before e : ℕ) → in_order low dp before e ≡ true → (258 ≤ e) × (e < before) × (first_at low e + 2 ≤ dp)

@@ -1,10 +1,9 @@
 -- EXECUTE is all one step with the word that it executes.
-use Rattle.std.proofs.Common.{◌≡◌, ℕ, zero, suc, ◌+◌, ◌-◌, ◌<◌, ◌≤◌, Bool, true, false, ◌&&◌, eqb, leb, List, [], ◌∷◌, length, get_or, drop, Ok, Err, Result, sym, refl, ap, ◌∙◌, subst, arith}
+use Rattle.std.proofs.Common.{◌≡◌, ℕ, suc, ◌+◌, ◌-◌, ◌<◌, ◌≤◌, Bool, true, false, ◌&&◌, eqb, leb, List, [], ◌∷◌, length, drop, Ok, Err, sym, refl, ap, ◌∙◌, subst, arith}
 use Rattle.std.proofs.lemmas.Bool.Decides.{nat_tests}
 use Rattle.std.proofs.lemmas.Bool as Tests
 use Rattle.fault.specs.declared.Fault.{Fault}
 use Rattle.fault.specs.declared.Reason.TheVariants.{BadToken, StackUnderflow}
-use Rattle.fault.specs.Numbers.{fault_of}
 use Rattle.store.specs.Meaning.{Meaning}
 use Rattle.stacks.specs.Stack.{stack_of}
 use Rattle.stacks.proofs.Laws.{drop_stack}
@@ -15,19 +14,19 @@ use Rattle.definition.specs.declared.registers.Mark.{Mark}
 use Rattle.definition.specs.declared.registers.Seat.{Seat}
 use Rattle.definition.specs.declared.registers.Shared.{Shared}
 use Rattle.definition.specs.declared.ranged.Registers.{Registers}
-use Rattle.definition.specs.Machine.{Machine, told}
-use Rattle.definition.specs.Asked.{Asked, refused, ask, ◌>>=◌, ◌>>◌, After}
+use Rattle.definition.specs.Machine.{Machine}
+use Rattle.definition.specs.Asked.{Asked, refused, ask, ◌>>◌, After}
 use Rattle.definition.specs.Run.{cleared}
 use Rattle.definition.specs.View.{lent, view_of}
 use Rattle.definition.specs.Flow.{in_dictionary}
 use Rattle.definition.specs.Stacks.{nth, popped, has_cells}
 use Rattle.definition.specs.Words.{taken, perform, do_kernel, execute_within, execute}
 use Rattle.definition.proofs.Agreeing.{dp_bottom}
-use Rattle.steps.specs.Seats.{told_by, with_cell_depth}
+use Rattle.steps.specs.Seats.{with_cell_depth}
 use Rattle.steps.specs.Does.{seen, IsRefused}
 use Rattle.steps.proofs.Exits.{depth_of, has_cells_lem, lacks_cells, cells_view}
 use Rattle.codes.specs.Performs.{coded}
-use Rattle.executing.specs.Tokens.{is_execute, Released, Pops, Through}
+use Rattle.executing.specs.Tokens.{is_execute, Released, Pops}
 
 -- the definition's way
 pub first : (t : ℕ) (m : Machine) → execute t m ≡ (ask m BadToken (in_dictionary t 2 m) >> coded (execute_within (length m.stacks.cells)) (cell_at m.low t) t m)

@@ -1,10 +1,10 @@
 -- What is found lies in the dictionary.
-use Rattle.std.proofs.Common.{◌≡◌, ℕ, zero, suc, ◌+◌, ◌<◌, ◌≤◌, Bool, true, false, eqb, List, length, sym, refl, ap, ◌∙◌, subst, arith}
+use Rattle.std.proofs.Common.{◌≡◌, ℕ, zero, suc, ◌+◌, ◌≤◌, Bool, true, false, eqb, List, length, sym, refl, ◌∙◌, subst, arith}
 use Rattle.std.proofs.lemmas.Bool.{eqb-true, eqb-false}
 use Rattle.image.specs.Cells.{at, cell_at}
 use Rattle.entries.specs.Entries.{first_at, is_named, forth, spelled, head_at}
 use Rattle.entries.specs.Search.{Found, missing, broken, hit, in_order, walk, search_in}
-use Rattle.entries.proofs.Walks.{in_parts, first_above, walk_end, walk_broken, walk_hit, walk_next}
+use Rattle.entries.proofs.Walks.{in_parts, walk_end, walk_broken, walk_hit, walk_next}
 use Rattle.dictionary.specs.Dict.{Dict}
 use Rattle.dictionary.specs.Search.{or_else, searched}
 

@@ -7,7 +7,7 @@ use Rattle.dictionary.specs.Search.{searched}
 use Rattle.definition.specs.declared.registers.Mark.{Mark}
 use Rattle.definition.specs.declared.ranged.Registers.{Registers}
 use Rattle.definition.specs.Machine.{Machine, dict_of}
-use Rattle.definition.specs.Asked.{Asked, given, ask, ◌>>=◌, ◌>>◌, After}
+use Rattle.definition.specs.Asked.{Asked, given, ask, ◌>>=◌, ◌>>◌}
 use Rattle.definition.specs.Text.{Taken, is_name, ask_found}
 use Rattle.definition.specs.Step
 use Rattle.definition.specs.Step.{word_of, acted, interpreted}

@@ -12,12 +12,12 @@ use Rattle.image.specs.Views.{low_of}
 use Rattle.image.proofs.Laws.{length_low}
 use Rattle.definition.specs.declared.registers.Mark.{Mark}
 use Rattle.definition.specs.declared.ranged.Registers.{Registers}
-use Rattle.definition.specs.Machine.{Machine, told, with_ip}
+use Rattle.definition.specs.Machine.{Machine, told}
 use Rattle.definition.specs.Asked.{Asked, refused, After, quietly}
 use Rattle.definition.specs.Kernel
 use Rattle.definition.specs.Kernel.{InlineWord}
 use Rattle.definition.specs.Words.{Argument, perform}
-use Rattle.definition.specs.Stacks.{has_cells, has_room, has_returns, has_return_room, nth, nth_return, popped, pushed, popped_returns, pushed_returns, go_to}
+use Rattle.definition.specs.Stacks.{has_cells, has_room, has_returns, has_return_room, nth, popped, pushed, popped_returns, pushed_returns, go_to}
 use Rattle.definition.specs.Flow.{has_inline, inline, past, do_inline}
 use Rattle.numbers.specs.Cells.{wrap, minus}
 use Rattle.definition.proofs.Agreeing.{dp_bottom}

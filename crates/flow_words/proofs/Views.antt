@@ -1,18 +1,17 @@
 -- Each move of the registers, as a move of the machine.
-use Rattle.std.proofs.Common.{◌≡◌, ℕ, ◌+◌, ◌-◌, ◌<◌, ◌≤◌, Bool, true, false, cond, eqb, leb, ◌⊎◌, List, [], ◌∷◌, ◌++◌, length, get_or, drop, sym, refl, ap, ◌∙◌, inl, inr, arith}
+use Rattle.std.proofs.Common.{◌≡◌, ℕ, ◌+◌, ◌-◌, ◌<◌, ◌≤◌, true, false, cond, eqb, leb, ◌⊎◌, List, [], ◌∷◌, length, drop, ap, ◌∙◌, inl, inr, arith}
 use Rattle.std.proofs.lemmas.Bool.Decides.{eqb_tells}
 use Rattle.store.specs.Meaning.{Meaning}
 use Rattle.stacks.specs.Stack.{stack_of}
 use Rattle.stacks.proofs.Laws.{length_stack}
 use Rattle.definition.specs.declared.registers.Mark.{Mark}
-use Rattle.definition.specs.declared.registers.Seat.{Seat}
 use Rattle.definition.specs.declared.ranged.Registers.{Registers}
-use Rattle.definition.specs.Machine.{Machine, with_cells, with_returns, with_ip}
+use Rattle.definition.specs.Machine.{with_returns, with_ip}
 use Rattle.definition.specs.View.{lent, view_of}
 use Rattle.definition.specs.Stacks.{popped, pushed, popped_returns, pushed_returns, go_to, has_returns, has_return_room, has_room}
 use Rattle.steps.specs.Seats.{with_cell_depth, with_return_depth, with_pointer}
 use Rattle.steps.specs.Does.{seen}
-use Rattle.steps.proofs.Exits.{yes, no, has_room_lem, lacks_room, cells_view}
+use Rattle.steps.proofs.Exits.{yes, no, cells_view}
 
 abbrev pub deep : Registers → ℕ
 deep r = r.seat.depths.cells

@@ -1,7 +1,7 @@
 -- The dictionary that boot leaves is one that the law starts from.
-use Rattle.std.proofs.Common.{◌≡◌, ℕ, zero, suc, ◌+◌, ◌-◌, ◌*◌, ◌<◌, ◌≤◌, Bool, true, false, ◌&&◌, T, ltb, leb, List, [], ◌∷◌, ◌++◌, length, get_or, replicate, sym, refl, ap, ◌∙◌, arith, lit<, lit≤}
+use Rattle.std.proofs.Common.{◌≡◌, ℕ, zero, suc, ◌+◌, ◌-◌, ◌*◌, ◌<◌, Bool, true, ◌&&◌, ltb, leb, List, [], ◌∷◌, length, refl, arith}
 use Rattle.std.proofs.lemmas.Bool.{ltb-true, leb-true, and_parts}
-use Rattle.image.specs.Cells.{at, cell_at, cell, set_cell, Bytes}
+use Rattle.image.specs.Cells.{cell_at, cell, set_cell, Bytes}
 use Rattle.forgetting.proofs.Raw.{youngest, youngest_in, first_at, link_of}
 use Rattle.forgetting.proofs.Stack.{Booted}
 use Rattle.forgetting.proofs.Story.{Boots}

@@ -1,12 +1,12 @@
 -- The vocabulary chain of a stack, and what is found in a thread.
-use Rattle.std.proofs.Common.{◌≡◌, ℕ, zero, suc, ◌+◌, ◌-◌, ◌*◌, ◌/◌, ◌%◌, ◌<◌, ◌≤◌, Bool, true, false, cond, ◌≢◌, ◌⊎◌, List, [], ◌∷◌, ◌++◌, length, get_or, take, sym, refl, ap, ◌∙◌, subst, ap₂, inl, inr, append_assoc, arith, length-append}
-use Rattle.std.proofs.lemmas.Bool.{cases_eq, cases_lt, cases_order, lt-ltb, le-ltb, ne_eqb}
-use Rattle.image.specs.Cells.{at, cell_at, cell, set_cell, Bytes}
+use Rattle.std.proofs.Common.{◌≡◌, ℕ, zero, suc, ◌+◌, ◌-◌, ◌*◌, ◌/◌, ◌%◌, ◌<◌, ◌≤◌, Bool, true, false, cond, ◌⊎◌, List, [], ◌∷◌, ◌++◌, length, sym, refl, ap, ◌∙◌, ap₂, inl, inr, append_assoc, arith, length-append}
+use Rattle.std.proofs.lemmas.Bool.{cases_eq, lt-ltb, le-ltb, ne_eqb}
+use Rattle.image.specs.Cells.{at, cell_at, cell}
 use Rattle.forgetting.proofs.Raw.{link_of, chain, left, first_at, youngest_in, youngest}
-use Rattle.forgetting.proofs.Stack.{Entry, Image, spot, tail_of, frame, framed, grow, Stack, base, push, image, Mem, Booted, Fits, Good, Under, here, there, fence, newest_of, Walk, stop, next}
+use Rattle.forgetting.proofs.Stack.{Entry, Image, spot, tail_of, frame, framed, grow, Stack, base, push, image, Mem, Good, Under, here, there, fence, newest_of, Walk, stop, next}
 use Rattle.forgetting.proofs.CellLaws.{cell_of_bytes}
-use Rattle.forgetting.proofs.Spacing.{low_of, vocs_of, dp, heads_at, mem_image, dp_push, low_push, voc_room, tail_voc}
-use Rattle.forgetting.proofs.Kept.{good_under, dp_under, voc_under, under_pop, push_right, at_after, link_is, cell_from, near, kept, Head, mem_up, mem_image_older}
+use Rattle.forgetting.proofs.Spacing.{low_of, vocs_of, dp, heads_at, mem_image, dp_push, voc_room, tail_voc}
+use Rattle.forgetting.proofs.Kept.{good_under, dp_under, under_pop, at_after, link_is, cell_from, near, kept, mem_image_older}
 use Rattle.forgetting.proofs.Heads.{head_joined_lem, head_low, head_older, head_new, voc_link_is}
 
 pub vocs_push : (e : Entry) (m : Stack) → ((e.is_voc ≡ true) × (vocs_of (push e m) ≡ heads_at e (image m) ∷ vocs_of m)) ⊎ (vocs_of (push e m) ≡ vocs_of m)

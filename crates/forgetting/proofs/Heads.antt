@@ -1,14 +1,13 @@
 -- The heads of a vocabulary as entries join, and how they fall back.
-use Rattle.std.proofs.Common.{◌≡◌, ℕ, zero, suc, ◌+◌, ◌-◌, ◌*◌, ◌/◌, ◌%◌, ◌<◌, ◌≤◌, Bool, true, false, cond, ◌≢◌, ◌⊎◌, List, [], ◌∷◌, ◌++◌, length, get_or, replicate, sym, refl, ap, ◌∙◌, subst, inl, inr, append_assoc, arith, length-append}
-use lib.ListN.{length-replicate}
-use Rattle.std.proofs.lemmas.List.{get_or_append_left, get_or-append_right, get_or-append-add, get_or-replicate}
+use Rattle.std.proofs.Common.{◌≡◌, ℕ, zero, suc, ◌+◌, ◌*◌, ◌/◌, ◌%◌, ◌<◌, ◌≤◌, Bool, true, false, ◌⊎◌, List, ◌∷◌, ◌++◌, length, replicate, sym, refl, ap, ◌∙◌, inl, inr, append_assoc, arith, length-append}
+use Rattle.std.proofs.lemmas.List.{get_or_append_left, get_or-replicate}
 use Rattle.std.proofs.lemmas.Bool.{cases_eq, cases_lt, cases_order, lt-ltb, le-ltb}
-use Rattle.image.specs.Cells.{at, cell_at, cell, set_cell, Bytes}
+use Rattle.image.specs.Cells.{at, cell_at, cell, set_cell}
 use Rattle.forgetting.proofs.Raw.{link_of, fall}
-use Rattle.forgetting.proofs.Stack.{Entry, Image, spot, tail_of, frame, framed, grow, Stack, base, push, image, Mem, Booted, Fits, Good, Under, here, there}
-use Rattle.forgetting.proofs.CellLaws.{length-set_cell, at_other, cell_same, cell_other, cell_left, cell_of_bytes, Apart, at_low, at_high}
+use Rattle.forgetting.proofs.Stack.{Entry, spot, tail_of, frame, framed, Stack, base, push, image, Mem, Good, Under, here, there}
+use Rattle.forgetting.proofs.CellLaws.{length-set_cell, cell_same, cell_other, cell_left, Apart}
 use Rattle.forgetting.proofs.Spacing.{low_of, vocs_of, dp, heads_at, mem_image, dp_push, low_push, voc_room, vocs_apart, Spaced, tail_voc}
-use Rattle.forgetting.proofs.Kept.{kept_at, under_pop, mem_up, good_under, dp_under, voc_under, push_left, push_right, at_after, link_is, cell_from}
+use Rattle.forgetting.proofs.Kept.{kept_at, under_pop, mem_up, good_under, dp_under, push_right, at_after, link_is, cell_from}
 
 -- two heads are one or apart
 pub spots : (u v k l : ℕ) → Spaced u v → k < 4 → l < 4 → (v + 2 * l ≡ u + 2 * k) ⊎ Apart (u + 2 * k) (v + 2 * l)

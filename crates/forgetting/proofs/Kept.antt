@@ -1,13 +1,11 @@
 -- What lies below an entry stays as it was under it.
-use Rattle.std.proofs.Common.{◌≡◌, ℕ, suc, ◌+◌, ◌-◌, ◌*◌, ◌/◌, ◌%◌, ◌<◌, ◌≤◌, Bool, true, false, cond, ◌≢◌, ◌⊎◌, List, [], ◌∷◌, ◌++◌, length, get_or, replicate, sym, refl, ap, ◌∙◌, subst, inl, inr, arith, length-append}
-use lib.ListN.{length-replicate}
-use Rattle.std.proofs.lemmas.List.{get_or_append_left, get_or-append_right, get_or-append-add}
-use Rattle.std.proofs.lemmas.Bool.{cases_eq, cases_lt}
-use Rattle.image.specs.Cells.{at, cell_at, cell, set_cell, Bytes}
-use Rattle.forgetting.proofs.Raw.{link_of}
-use Rattle.forgetting.proofs.Stack.{Entry, Image, spot, tail_of, frame, framed, grow, Stack, base, push, image, Mem, Booted, Fits, Good, Under, here, there}
-use Rattle.forgetting.proofs.CellLaws.{length-set_cell, at_other, cell_same, cell_other, cell_left, cell_of_bytes, Apart, at_low, at_high}
-use Rattle.forgetting.proofs.Spacing.{mem_older, low_of, vocs_of, dp, heads_at, mem_image, dp_push, low_push, voc_room, vocs_apart, Spaced, tail_voc}
+use Rattle.std.proofs.Common.{◌≡◌, ℕ, ◌+◌, ◌/◌, ◌%◌, ◌<◌, ◌≤◌, ◌⊎◌, List, ◌++◌, length, refl, ap, ◌∙◌, inl, inr, arith}
+use Rattle.std.proofs.lemmas.List.{get_or_append_left, get_or-append-add}
+use Rattle.std.proofs.lemmas.Bool.{cases_lt}
+use Rattle.image.specs.Cells.{at, cell_at, cell, set_cell}
+use Rattle.forgetting.proofs.Stack.{Entry, spot, frame, framed, grow, Stack, push, image, Mem, Good, Under, here, there}
+use Rattle.forgetting.proofs.CellLaws.{length-set_cell, at_other}
+use Rattle.forgetting.proofs.Spacing.{mem_older, low_of, vocs_of, dp, heads_at, mem_image, dp_push, low_push, voc_room}
 
 pub good_under : {s m : Stack} → Under s m → Good m → Good s
 good_under here g = g

@@ -1,14 +1,14 @@
 -- The changes of the law are moves that entries are stacked by, so its stories are theirs.
-use Rattle.std.proofs.Common.{◌≡◌, ℕ, ◌+◌, ◌<◌, ◌≤◌, Bool, true, false, ◌≢◌, ◌⊎◌, List, [], ◌∷◌, ◌++◌, length, sym, refl, ap, ◌∙◌, subst, inl, inr, add-zero, arith}
+use Rattle.std.proofs.Common.{◌≡◌, ℕ, ◌≤◌, true, false, ◌⊎◌, List, [], ◌∷◌, ◌++◌, length, sym, refl, ap, ◌∙◌, subst, inl, inr, add-zero, arith}
 use Rattle.std.proofs.lemmas.List.{append-nil}
-use Rattle.image.specs.Cells.{at, cell_at, cell, set_cell, zeros, Bytes}
+use Rattle.image.specs.Cells.{at, cell_at, cell, zeros, Bytes}
 use Rattle.entries.specs.Entries.{entry_bytes, count_byte}
-use Rattle.dictionary.specs.Dict.{Dict, dp, next_entry, begun, defined, vocabulary_defined, thread_of}
+use Rattle.dictionary.specs.Dict.{Dict, next_entry, thread_of}
 use Rattle.dictionary.specs.Trim.{forgotten, chain_of}
 use Rattle.kernel.specs.Boot.{boot_dict}
-use Rattle.forgetting.specs.Changes.{Change, colon, define, vocabulary, append, patch, semicolon, immediate, does, allot, seek, definitions, forget, give_up, changed, with_here, Begins, Allowed, OnChain}
-use Rattle.forgetting.specs.Law.{fence, Run, start, and_then, Begin, Ends, Keeps, still, and_still, Same, Story, Forgets, Absorbs, Composes}
-use Rattle.forgetting.proofs.Stack.{Mem, frame, tail_of, spot}
+use Rattle.forgetting.specs.Changes.{Change, colon, define, vocabulary, append, patch, semicolon, immediate, does, allot, seek, definitions, forget, give_up, changed, Begins, Allowed, OnChain}
+use Rattle.forgetting.specs.Law.{fence, Run, start, and_then, Begin, Ends, Keeps, still, and_still, Same, Forgets, Absorbs, Composes}
+use Rattle.forgetting.proofs.Stack.{Mem, frame, tail_of}
 use Rattle.forgetting.proofs.Moves as moves
 use Rattle.forgetting.proofs.Moves.{Move, apply, entry_of}
 use Rattle.forgetting.proofs.Story as stacked

@@ -1,5 +1,5 @@
 -- What a step may do to a dictionary, in the parts that a stack is made of.
-use Rattle.std.proofs.Common.{◌≡◌, ℕ, ◌+◌, ◌-◌, ◌*◌, ◌%◌, ◌<◌, ◌≤◌, Bool, true, false, cond, eqb, ltb, ◌≢◌, ◌⊎◌, List, [], ◌∷◌, ◌++◌, length, take, set}
+use Rattle.std.proofs.Common.{◌≡◌, ℕ, ◌+◌, ◌-◌, ◌*◌, ◌%◌, ◌<◌, ◌≤◌, Bool, false, cond, eqb, ltb, ◌≢◌, ◌⊎◌, List, [], ◌++◌, length, take, set}
 use Rattle.image.specs.Cells.{at, cell_at, set_cell, Bytes}
 use Rattle.forgetting.proofs.Raw.{trim_vocs, left, link_of, first_at, youngest}
 pub use Rattle.dictionary.specs.Dict.{Dict}

@@ -1,12 +1,12 @@
 -- The shape of a dictionary: a stack of joined entries, and perhaps an open one.
-use Rattle.std.proofs.Common.{◌≡◌, ℕ, zero, suc, ◌+◌, ◌-◌, ◌*◌, ◌/◌, ◌%◌, ◌<◌, ◌≤◌, Bool, true, false, cond, ◌≢◌, ◌⊎◌, List, [], ◌∷◌, ◌++◌, length, get_or, take, set, sym, refl, ap, ◌∙◌, subst, ap₂, inl, inr, append_assoc, arith, length-append, length-set}
+use Rattle.std.proofs.Common.{◌≡◌, ℕ, ◌+◌, ◌-◌, ◌/◌, ◌%◌, ◌<◌, ◌≤◌, Bool, true, false, ◌⊎◌, List, ◌∷◌, ◌++◌, length, set, refl, ap, ◌∙◌, subst, inl, inr, append_assoc, arith, length-append, length-set}
 use Rattle.std.proofs.lemmas.List.{append-nil, set-append_left, set-append_right}
-use Rattle.image.specs.Cells.{at, cell_at, cell, set_cell, Bytes}
+use Rattle.image.specs.Cells.{at, cell, set_cell}
 use Rattle.forgetting.proofs.Raw.{link_of}
-use Rattle.forgetting.proofs.Stack.{Entry, Image, spot, tail_of, frame, framed, grow, Stack, base, push, image, Mem, Booted, Fits, Good, Under, here, there, fence, newest_of}
+use Rattle.forgetting.proofs.Stack.{Entry, Image, tail_of, frame, framed, Stack, base, push, image, Mem, Fits, Good, Under, here, there, fence, newest_of}
 use Rattle.forgetting.proofs.Moves.{Dict}
-use Rattle.forgetting.proofs.Spacing.{low_of, vocs_of, dp, heads_at, dp_push}
-use Rattle.forgetting.proofs.Kept.{good_under, dp_under}
+use Rattle.forgetting.proofs.Spacing.{low_of, vocs_of, dp, dp_push}
+use Rattle.forgetting.proofs.Kept.{dp_under}
 
 -- no entry open: the dictionary is the image of a stack
 pub record Shut (F : ℕ) (D : Dict) (m : Stack) : Type 0 where

@@ -1,5 +1,5 @@
 -- A dictionary as a stack of joined entries over what boot left.
-use Rattle.std.proofs.Common.{◌≡◌, ℕ, ◌+◌, ◌-◌, ◌*◌, ◌%◌, ◌^◌, ◌<◌, ◌≤◌, Bool, true, false, cond, ◌⊎◌, List, [], ◌∷◌, ◌++◌, length, replicate}
+use Rattle.std.proofs.Common.{◌≡◌, ℕ, ◌+◌, ◌-◌, ◌*◌, ◌%◌, ◌<◌, ◌≤◌, Bool, true, false, cond, ◌⊎◌, List, [], ◌∷◌, ◌++◌, length, replicate}
 use Rattle.image.specs.Cells.{cell_at, set_cell, cell, Bytes}
 pub use Rattle.entries.specs.Threads.{Walk, stop, next}
 use Rattle.forgetting.proofs.Raw.{link_of, youngest, first_at}

@@ -1,18 +1,18 @@
 -- Each move leads from shape to shape.
-use Rattle.std.proofs.Common.{◌≡◌, ℕ, zero, suc, ◌+◌, ◌-◌, ◌*◌, ◌/◌, ◌%◌, ◌<◌, ◌≤◌, max, Bool, true, false, cond, eqb, ltb, ◌≢◌, ◌⊎◌, List, [], ◌∷◌, ◌++◌, length, get_or, take, drop, set, sym, refl, ap, ◌∙◌, subst, ap₂, inl, inr, append_assoc, arith, length-append, length-set}
-use Rattle.std.proofs.lemmas.List.{length-drop, set_past, get_or-set_same, get_or-set_other, get_or_past, get_or-append-add, append-nil, set-append_left, set-append_right, take_at, get_or_append_left, get_or-append_right}
-use Rattle.std.proofs.lemmas.Bool.{cases_lt, cases_eq, ltb-true, ltb-false, lt-ltb, le-ltb, ne_eqb, eq-eqb, cond_both}
+use Rattle.std.proofs.Common.{◌≡◌, ℕ, zero, suc, ◌+◌, ◌-◌, ◌*◌, ◌/◌, ◌%◌, ◌<◌, ◌≤◌, max, Bool, true, false, cond, ltb, ◌≢◌, List, [], ◌∷◌, ◌++◌, length, take, drop, set, sym, refl, ap, ◌∙◌, subst, ap₂, inl, inr, append_assoc, arith, length-append, length-set}
+use Rattle.std.proofs.lemmas.List.{length-drop, set_past, get_or-set_same, get_or-set_other, get_or_past, get_or-append-add, set-append_right, take_at, get_or_append_left}
+use Rattle.std.proofs.lemmas.Bool.{cases_lt, cases_eq, ltb-true, ltb-false, ne_eqb, cond_both}
 use Rattle.image.specs.Cells.{at, cell_at, cell, set_cell, Bytes}
-use Rattle.forgetting.proofs.Raw.{link_of, left, chain, first_at, youngest, youngest_in, trim_vocs}
-use Rattle.forgetting.proofs.Stack.{Entry, Image, spot, tail_of, frame, framed, grow, Stack, base, push, image, Mem, Booted, Fits, Good, Under, here, there, fence, newest_of, Walk}
-use Rattle.forgetting.proofs.Moves.{marked, Dict, Move, colon, make, append, patch, semi, immediate, does, allot, seek, definitions, forget, give_up, apply, Allowed, Ends, entry_of, begun, chain_of, trimmed, Begins, Appends, Patches, Doing, Finds}
+use Rattle.forgetting.proofs.Raw.{link_of, left, first_at, youngest, youngest_in, trim_vocs}
+use Rattle.forgetting.proofs.Stack.{Entry, Image, spot, tail_of, frame, framed, grow, Stack, base, push, image, Mem, Booted, Fits, Good, Under, here, there, fence, newest_of}
+use Rattle.forgetting.proofs.Moves.{marked, Dict, Move, colon, make, append, patch, semi, immediate, does, allot, seek, definitions, forget, give_up, apply, Allowed, Ends, entry_of, begun, chain_of, Begins, Appends, Patches, Doing, Finds}
 use Rattle.forgetting.proofs.Story.{Begin}
 use Rattle.forgetting.proofs.CellLaws.{length-set_cell, cell_of_bytes}
-use Rattle.forgetting.proofs.Spacing.{low_of, vocs_of, dp, heads_at, dp_push, low_push, length_grow, length_frame, voc_room}
-use Rattle.forgetting.proofs.Kept.{good_under, dp_under, under_pop, mem_up, mem_image_older, voc_under, at_after, push_right, cell_from}
-use Rattle.forgetting.proofs.Trims.{trims, whole, set-bytes, append-bytes}
-use Rattle.forgetting.proofs.Chains.{forth_in, chain_in, chain_is, left_is, body_is, found, On, youngest_is, link_low, low_long, vocs_push}
-use Rattle.forgetting.proofs.Shape.{under_base, pop_of, body_of, under_cases, Shut, Opened, Shape, shut, opened, Fit, Stand, Over, set_cell_left, set_cell_right, head9, length_head9, frame_split9, frame_plain, with_rest, with_count, with_rest_head, under_order}
+use Rattle.forgetting.proofs.Spacing.{low_of, vocs_of, dp, heads_at, low_push, length_grow, length_frame, voc_room}
+use Rattle.forgetting.proofs.Kept.{good_under, under_pop, mem_image_older, voc_under, at_after, push_right, cell_from}
+use Rattle.forgetting.proofs.Trims.{trims, set-bytes, append-bytes}
+use Rattle.forgetting.proofs.Chains.{forth_in, chain_in, chain_is, left_is, body_is, found, On, youngest_is, link_low}
+use Rattle.forgetting.proofs.Shape.{under_base, pop_of, body_of, under_cases, Shut, Opened, Shape, shut, opened, Fit, Stand, Over, set_cell_left, set_cell_right, head9, length_head9, frame_plain, with_rest, with_count, under_order}
 
 -- what a move leaves: a shape again, and every word that the move does not end
 abbrev pub Goes : ℕ → Move → Dict → Shape → Type 0

@@ -1,5 +1,5 @@
 -- Moves one after the other.
-use Rattle.std.proofs.Common.{◌≡◌, ℕ, ◌+◌, List, [], ◌∷◌, length, drop}
+use Rattle.std.proofs.Common.{◌≡◌, ℕ, ◌+◌, [], ◌∷◌, length, drop}
 use Rattle.forgetting.proofs.Raw.{youngest}
 use Rattle.forgetting.proofs.Stack.{Booted}
 use Rattle.forgetting.proofs.Moves.{Dict, Move, colon, make, append, patch, semi, immediate, does, allot, seek, definitions, forget, give_up, apply, Allowed, Ends, chain_of}

@@ -1,14 +1,13 @@
 -- A trim of a stack makes the stack below it.
-use Rattle.std.proofs.Common.{◌≡◌, ℕ, zero, suc, ◌+◌, ◌-◌, ◌*◌, ◌/◌, ◌%◌, ◌<◌, ◌≤◌, Bool, true, false, cond, ◌≢◌, ◌⊎◌, List, [], ◌∷◌, ◌++◌, length, get_or, take, replicate, sym, refl, ap, ◌∙◌, subst, inl, inr, append_assoc, arith, length-append}
-use lib.ListN.{length-replicate}
-use Rattle.std.proofs.lemmas.List.{get_or_append_left, get_or-append_right, get_or-append-add, ext_get_or, length-take-le, get_or-take}
-use Rattle.std.proofs.lemmas.Bool.{cases_eq, cases_lt, cases_order, lt-ltb, le-ltb}
-use Rattle.image.specs.Cells.{at, cell_at, cell, set_cell, Bytes}
-use Rattle.forgetting.proofs.Raw.{link_of, fall, trim_voc, trim_vocs}
-use Rattle.forgetting.proofs.Stack.{Entry, Image, spot, tail_of, frame, framed, grow, Stack, base, push, image, Mem, Booted, Fits, Good, Under, here, there}
-use Rattle.forgetting.proofs.CellLaws.{length-set_cell, at_other, cell_same, cell_other, cell_left, cell_of_bytes, Apart, at_low, at_high, low_of_lem, high_of_lem}
-use Rattle.forgetting.proofs.Spacing.{low_of, vocs_of, dp, heads_at, mem_image, dp_push, low_push, voc_room, vocs_apart, Spaced, tail_voc}
-use Rattle.forgetting.proofs.Kept.{good_under, dp_under, voc_under, push_left, push_right, at_after, link_is, cell_from, near, Head, mem_up}
+use Rattle.std.proofs.Common.{◌≡◌, ℕ, zero, suc, ◌+◌, ◌-◌, ◌*◌, ◌<◌, ◌≤◌, Bool, true, false, cond, ◌≢◌, ◌⊎◌, List, [], ◌∷◌, ◌++◌, length, take, sym, refl, ap, ◌∙◌, inl, inr, arith}
+use Rattle.std.proofs.lemmas.List.{get_or_append_left, get_or-append_right, ext_get_or, length-take-le, get_or-take}
+use Rattle.std.proofs.lemmas.Bool.{cases_eq, cases_lt}
+use Rattle.image.specs.Cells.{at, cell_at, set_cell, Bytes}
+use Rattle.forgetting.proofs.Raw.{fall, trim_voc, trim_vocs}
+use Rattle.forgetting.proofs.Stack.{spot, framed, grow, Stack, base, push, image, Mem, Good, Under, here}
+use Rattle.forgetting.proofs.CellLaws.{length-set_cell, at_other, cell_of_bytes, at_low, at_high, low_of_lem, high_of_lem}
+use Rattle.forgetting.proofs.Spacing.{low_of, vocs_of, dp, heads_at, dp_push, low_push, voc_room}
+use Rattle.forgetting.proofs.Kept.{good_under, dp_under, near, Head, mem_up}
 use Rattle.forgetting.proofs.Heads.{head_low, falls, fall_down, fall_step}
 
 byte_cases : (a p : ℕ) → (a ≡ p) ⊎ ((a ≡ p + 1) ⊎ ((a ≢ p) × (a ≢ p + 1)))

@@ -1,14 +1,14 @@
 -- The law, over moves.
-use Rattle.std.proofs.Common.{◌≡◌, ℕ, ◌+◌, ◌<◌, ◌⊎◌, List, [], ◌∷◌, length, drop, sym, refl, ap, ◌∙◌, subst, ap₂, inl, inr, arith}
-use Rattle.forgetting.proofs.Raw.{chain, youngest, link_of}
-use Rattle.forgetting.proofs.Stack.{Entry, Image, Stack, base, push, image, Mem, Booted, Good, Under, here, there, fence, newest_of}
-use Rattle.forgetting.proofs.Moves.{Dict, Move, colon, make, append, patch, semi, immediate, does, allot, seek, definitions, forget, give_up, apply, Allowed, Ends, chain_of, Finds}
+use Rattle.std.proofs.Common.{◌≡◌, ℕ, ◌+◌, ◌<◌, [], ◌∷◌, length, drop, sym, refl, ap, ◌∙◌, subst, ap₂, inl, arith}
+use Rattle.forgetting.proofs.Raw.{chain, link_of}
+use Rattle.forgetting.proofs.Stack.{Stack, base, image, fence, newest_of}
+use Rattle.forgetting.proofs.Moves.{Dict, Move, colon, make, append, patch, semi, immediate, does, allot, seek, definitions, forget, give_up, apply, Allowed, Finds}
 use Rattle.forgetting.proofs.Story.{Boots, Run, start, and_then, Keeps, still, and_still, Begin, Same, Forgotten}
-use Rattle.forgetting.proofs.Spacing.{low_of, vocs_of, dp, dp_push}
+use Rattle.forgetting.proofs.Spacing.{dp, dp_push}
 use Rattle.forgetting.proofs.Kept.{dp_under}
 use Rattle.forgetting.proofs.Chains.{On}
-use Rattle.forgetting.proofs.Shape.{Shut, Opened, Shape, shut, opened, Fit, Stand, Over}
-use Rattle.forgetting.proofs.Steps.{begin_stands, not_open, Goes, step, go_colon, go_make, chain_of_lem, forget_low, forget_top, forget_link}
+use Rattle.forgetting.proofs.Shape.{Shut, Shape, shut, opened, Fit, Stand, Over}
+use Rattle.forgetting.proofs.Steps.{begin_stands, not_open, step, forget_low, forget_top, forget_link}
 
 boot_fit : (Z : Dict) → Boots Z → Shut (length Z.low) Z (base (record { low = Z.low; vocs = 270 ∷ [] }))
 unfolding image newest_of fence link_of

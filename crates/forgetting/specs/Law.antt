@@ -1,5 +1,5 @@
 -- The law of forgetting: a word begun after boot that FORGET finds while it stands leaves nothing behind.
-use Rattle.std.specs.Prelude.{◌≡◌, ℕ, ◌<◌, ◌≤◌, List, length, drop}
+use Rattle.std.specs.Prelude.{◌≡◌, ℕ, ◌<◌, ◌≤◌, drop}
 use Rattle.dictionary.specs.Dict.{Dict, dp, next_entry}
 use Rattle.dictionary.specs.Trim.{chain_of, forgotten}
 use Rattle.kernel.specs.Boot.{boot_dict}

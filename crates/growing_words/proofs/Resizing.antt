@@ -1,14 +1,12 @@
 -- The ends of ALLOT.
-use Rattle.std.proofs.Common.{◌≡◌, ℕ, ◌+◌, ◌-◌, ◌<◌, ◌≤◌, max, Bool, true, false, ◌&&◌, leb, ◌⊎◌, List, [], ◌∷◌, ◌++◌, length, get_or, take, drop, replicate, Ok, Err, sym, refl, ap, ◌∙◌, inl, inr, arith, take_all, take-take}
+use Rattle.std.proofs.Common.{◌≡◌, ℕ, ◌+◌, ◌-◌, ◌<◌, ◌≤◌, Bool, true, false, leb, ◌⊎◌, List, ◌++◌, length, get_or, take, drop, replicate, Ok, Err, sym, refl, ap, ◌∙◌, inl, inr, arith, take_all, take-take}
 use Rattle.std.proofs.lemmas.List.{append-nil, length-replicate, get_or-replicate, get_or_append_left, get_or_past}
-use Rattle.std.proofs.lemmas.Bool.Decides.{leb_tells, nat_tests}
+use Rattle.std.proofs.lemmas.Bool.Decides.{leb_tells}
 use Rattle.fault.specs.declared.Fault.{Fault}
 use Rattle.fault.specs.declared.Reason.TheVariants.{StackUnderflow, DataFull}
 use Rattle.fault.specs.Numbers.{fault_of}
 use Rattle.store.specs.Meaning.{Meaning}
 use Rattle.stacks.specs.Stack.{stack_of}
-use Rattle.entries.specs.Entries.{first_at}
-use Rattle.entries.specs.Search.{in_order}
 use Rattle.image.specs.Cells.{at, zeros}
 use Rattle.image.specs.Views.{low_of, high_of, line_of}
 use Rattle.image.specs.Writes.{overwritten}
@@ -18,13 +16,12 @@ use Rattle.definition.specs.declared.registers.Mark.{Mark}
 use Rattle.definition.specs.declared.registers.Seat.{Seat}
 use Rattle.definition.specs.declared.ranged.Registers.{Registers}
 use Rattle.definition.specs.Machine.{Machine, here, with_high}
-use Rattle.definition.specs.Asked.{Asked, refused, After, quietly, if◌then◌else◌}
+use Rattle.definition.specs.Asked.{Asked, refused, After, quietly}
 use Rattle.definition.specs.Kernel
 use Rattle.definition.specs.Words.{Argument, perform}
 use Rattle.definition.specs.View.{lent, view_of}
 use Rattle.definition.specs.Stacks.{has_cells, nth, popped}
 use Rattle.definition.specs.Space.{do_space}
-use Rattle.definition.proofs.Agreeing.{dp_bottom}
 use Rattle.steps.specs.Seats.{told_by, with_cell_depth}
 use Rattle.steps.specs.Does.{seen, acts, OnSpace}
 use Rattle.steps.proofs.Exits.{refused_at, has_cells_lem, lacks_cells}

@@ -1,8 +1,8 @@
 -- Laws of a list in which bytes are overwritten.
-use Rattle.std.proofs.Common.{◌≡◌, ℕ, zero, suc, ◌+◌, ◌-◌, ◌/◌, ◌%◌, ◌<◌, ◌≤◌, List, [], ◌∷◌, ◌++◌, length, get_or, take, drop, set, sym, refl, ap, ◌∙◌, add_assoc, arith}
+use Rattle.std.proofs.Common.{◌≡◌, ℕ, ◌+◌, ◌-◌, ◌/◌, ◌%◌, ◌<◌, ◌≤◌, List, [], ◌∷◌, ◌++◌, length, get_or, take, drop, set, sym, refl, ap, ◌∙◌, arith}
 use borrow.Rule.Slice.PartMut.{put_mid}
 use lib.Seq.{take-append-add, drop-append-add}
-use Rattle.std.proofs.lemmas.List.{append_assoc, append-nil, length-append, length-take, length-take-le, length-drop, length_push, take-append-drop, take-append-le, take-take, take_at, drop-drop, drop_at, drop-append-le, drop-take, drop_more, set_at}
+use Rattle.std.proofs.lemmas.List.{append_assoc, length-append, length-take, length-take-le, length-drop, length_push, take-append-drop, take-append-le, take-take, take_at, drop-drop, drop_at, drop-append-le, drop-take, drop_more, set_at}
 use Rattle.image.specs.Cells.{cell, set_cell}
 use Rattle.image.specs.Writes.{overwritten}
 

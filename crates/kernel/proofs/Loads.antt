@@ -1,12 +1,12 @@
 -- Laws of the kernel's table.
-use Rattle.std.proofs.Common.{◌≡◌, ℕ, zero, suc, ◌+◌, ◌-◌, ◌*◌, ◌%◌, ◌<◌, ◌≤◌, Bool, true, false, ◌&&◌, ltb, leb, List, [], ◌∷◌, ◌++◌, length, get_or, take, drop, is_ok, Ok, Err, Result, sym, refl, ap, ◌∙◌, subst, arith, MatchResult}
+use Rattle.std.proofs.Common.{◌≡◌, ℕ, zero, suc, ◌+◌, ◌-◌, ◌*◌, ◌%◌, ◌<◌, ◌≤◌, true, ltb, leb, List, [], ◌∷◌, ◌++◌, length, get_or, take, drop, is_ok, Ok, Err, Result, sym, refl, ap, ◌∙◌, subst, arith, MatchResult}
 use Rattle.std.proofs.lemmas.List.{drop_more, drop-drop, drop_all, length-take, length-drop, append-nil}
 use Rattle.std.proofs.lemmas.Bool.{and_parts, leb-true, ltb-true, le-leb, cond-true, false≢true}
 use Rattle.fault.specs.declared.Fault.{Fault}
 use Rattle.fault.specs.declared.Place.{Place}
 use Rattle.dictionary.specs.Lent.{with_room, Did}
 use Rattle.dictionary.proofs.Beginning.{room_ok}
-use Rattle.image.specs.Cells.{cell, set_cell, cell_at, zeros}
+use Rattle.image.specs.Cells.{cell, set_cell, zeros}
 use Rattle.image.specs.Views.{low_of}
 use Rattle.entries.specs.Entries.{spelled, entry_bytes}
 use Rattle.entries.specs.Threads.{Ascii}

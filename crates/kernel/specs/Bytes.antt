@@ -1,5 +1,5 @@
 -- The table as bytes: for each word its name's length, 64 more if it is immediate, then the name.
-use Rattle.std.specs.Prelude.{ℕ, zero, suc, ◌-◌, ◌%◌, Bool, true, false, ◌&&◌, List, [], ◌∷◌, length, take, drop, nat_le, nat_lt}
+use Rattle.std.specs.Prelude.{ℕ, zero, suc, ◌-◌, ◌%◌, Bool, true, ◌&&◌, List, [], ◌∷◌, length, take, drop, nat_le, nat_lt}
 use Rattle.kernel.specs.Table.{Row}
 
 unfoldable pub rows_in : ℕ → List ℕ → List Row

@@ -1,5 +1,5 @@
 -- The kernel words in their order, numbered from 1: name, and 64 for an immediate word.
-use Rattle.std.specs.Prelude.{ℕ, List, [], ◌∷◌, ◌++◌, codes}
+use Rattle.std.specs.Prelude.{ℕ, List, [], ◌∷◌, codes}
 use Prim.Native.String.{String}
 
 pub record Row : Type 0 where

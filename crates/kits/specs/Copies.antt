@@ -1,5 +1,5 @@
 -- What copying a card to another leaves, and when it is refused.
-use Rattle.std.specs.Prelude.{◌≡◌, ℕ, ◌<◌, ◌≤◌, min, Bool, true, false, ◌⊎◌, List, [], MatchBool, Option, Result, MatchOption, MatchResult, ◌≢◌}
+use Rattle.std.specs.Prelude.{◌≡◌, ℕ, ◌<◌, ◌≤◌, min, Bool, false, ◌⊎◌, MatchBool, Option, Result, MatchOption, MatchResult, ◌≢◌}
 use Rattle.fault.specs.declared.Fault.{Fault}
 use Rattle.fault.specs.declared.Reason.TheVariants.{NoBlock, NotWritable}
 use Rattle.fault.specs.Numbers.{fault_of, place_of}

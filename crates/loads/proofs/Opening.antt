@@ -1,5 +1,5 @@
 -- LOAD and the end of a load, as the definition has them.
-use Rattle.std.proofs.Common.{◌≡◌, ℕ, ◌-◌, ◌<◌, ◌≤◌, true, false, not, ◌&&◌, eqb, ltb, List, [], ◌∷◌, length, get_or, drop, Ok, Err, sym, refl, ap, ◌∙◌, arith}
+use Rattle.std.proofs.Common.{◌≡◌, ℕ, ◌-◌, ◌<◌, ◌≤◌, true, false, not, ◌&&◌, eqb, ltb, List, ◌∷◌, length, get_or, drop, Ok, Err, sym, refl, ap, ◌∙◌}
 use Rattle.fault.specs.declared.Fault.{Fault}
 use Rattle.fault.specs.declared.Reason.TheVariants.{StackUnderflow, BadLoad}
 use Rattle.fault.specs.Numbers.{fault_of}

@@ -6,7 +6,6 @@ use Rattle.definition.specs.declared.registers.Loads.{Loads}
 use Rattle.definition.specs.declared.registers.Position.{Position}
 use Rattle.definition.specs.declared.registers.Seat.{Seat}
 use Rattle.definition.specs.declared.ranged.Registers.{Registers}
-use Rattle.definition.specs.Machine.{Machine}
 use Rattle.definition.specs.Asked.{quietly}
 use Rattle.definition.specs.Step.{finished, outcome, ended}
 use Rattle.steps.specs.Does.{seen}

@@ -1,5 +1,5 @@
 -- A change of the dictionary that leaves the rest of the image is a change of the machine.
-use Rattle.std.proofs.Common.{◌≡◌, ℕ, ◌+◌, ◌-◌, ◌≤◌, List, length, take, drop, sym, refl, ap, ◌∙◌, arith, take_all, take-take}
+use Rattle.std.proofs.Common.{◌≡◌, ℕ, ◌-◌, ◌≤◌, List, length, take, drop, sym, ap, ◌∙◌, arith, take_all, take-take}
 use Rattle.std.proofs.lemmas.List.{drop-take}
 use Rattle.store.specs.Meaning.{Meaning}
 use Rattle.stacks.specs.Stack.{stack_of}
@@ -10,8 +10,6 @@ use Rattle.dictionary.specs.Dict.{Dict}
 use Rattle.dictionary.specs.Lent as lent
 use Rattle.dictionary.specs.Lent.{Outside, dict_in}
 use Rattle.definition.specs.declared.registers.Mark.{Mark}
-use Rattle.definition.specs.declared.registers.Shared.{Shared}
-use Rattle.definition.specs.declared.registers.Seat.{Seat}
 use Rattle.definition.specs.declared.ranged.Registers.{Registers}
 use Rattle.definition.specs.Machine.{Machine, here, dict_of, changed, with_high}
 use Rattle.definition.specs.View as view

@@ -1,5 +1,5 @@
 -- Registers with the dictionary's part replaced, and what a dictionary asks of registers.
-use Rattle.std.specs.Prelude.{ℕ, ◌+◌, ◌<◌, ◌≤◌}
+use Rattle.std.specs.Prelude.{◌+◌, ◌<◌, ◌≤◌}
 use Rattle.dictionary.specs.declared.registers.Ends.{Ends}
 use Rattle.dictionary.specs.declared.registers.Names.{Names}
 use Rattle.dictionary.specs.declared.registers.SearchOrder.{SearchOrder}

@@ -5,7 +5,7 @@ use Rattle.fault.specs.declared.Reason.TheVariants.{StackUnderflow, OutOfReach}
 use Rattle.image.specs.Cells.{at, cell, cell_at}
 use Rattle.image.specs.Writes.{overwritten, moved_up}
 use Rattle.numbers.specs.Cells.{wrap}
-use Rattle.definition.specs.Machine.{Machine, with_high, with_cells}
+use Rattle.definition.specs.Machine.{Machine, with_high}
 use Rattle.definition.specs.Asked.{Asked, refused, After, quietly}
 use Rattle.definition.specs.Kernel
 use Rattle.definition.specs.Kernel.{SpaceWord}

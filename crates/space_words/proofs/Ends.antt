@@ -8,25 +8,24 @@ use Rattle.fault.specs.Numbers.{fault_of}
 use Rattle.store.specs.Meaning.{Meaning}
 use Rattle.stacks.specs.Stack.{stack_of}
 use Rattle.image.specs.Cells.{at, cell, cell_at}
-use Rattle.image.specs.Views.{low_of, high_of}
+use Rattle.image.specs.Views.{high_of}
 use Rattle.image.specs.Writes.{overwritten, moved_up}
-use Rattle.image.proofs.Laws.{length_high}
 use Rattle.image.proofs.Laws.{cell_high, get_or_high}
 use Rattle.numbers.specs.Cells.{wrap}
 use Rattle.definition.specs.declared.registers.Mark.{Mark}
 use Rattle.definition.specs.declared.ranged.Registers.{Registers}
-use Rattle.definition.specs.Machine.{Machine, with_cells, with_high}
-use Rattle.definition.specs.Asked.{Asked, refused, After, quietly}
+use Rattle.definition.specs.Machine.{with_cells, with_high}
+use Rattle.definition.specs.Asked.{refused, quietly}
 use Rattle.definition.specs.Kernel
 use Rattle.definition.specs.Kernel.{SpaceWord}
 use Rattle.definition.specs.Stacks.{replaced}
 use Rattle.definition.specs.Space.{do_space}
 use Rattle.steps.specs.Seats.{told_by, with_cell_depth}
-use Rattle.steps.specs.Does.{seen, acts, Does, OnSpace}
+use Rattle.steps.specs.Does.{seen, acts, OnSpace}
 use Rattle.steps.proofs.Exits.{yes, refused_at, has_cells_lem, lacks_cells, has_room_lem, cells_view}
 use Rattle.space_words.specs.Numbers.{reachable}
-use Rattle.space_words.proofs.Written.{Wrote, overwrote, moved_views, reached, reach_is, space_view}
-use Rattle.space_words.proofs.Doing.{Acts, fetch_acts, fetch_byte_acts, store_acts, store_byte_acts, add_acts, fill_acts, copy_acts, takes_of, short, fetch_far, store_far, add_far, fill_far, copy_far, copy_too_far, fetched, byte_fetched, stored, byte_stored, added, filled, base_set, copied, moved_on_lem}
+use Rattle.space_words.proofs.Written.{overwrote, moved_views, reached, reach_is, space_view}
+use Rattle.space_words.proofs.Doing.{Acts, fetch_acts, fetch_byte_acts, store_acts, store_byte_acts, add_acts, fill_acts, copy_acts, takes_of, short, fetch_far, store_far, add_far, fill_far, copy_far, copy_too_far, fetched, byte_fetched, stored, byte_stored, added, filled, base_set, copied}
 
 abbrev deep : Registers → ℕ
 deep r = r.seat.depths.cells

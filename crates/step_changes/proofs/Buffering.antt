@@ -11,7 +11,7 @@ use Rattle.store.specs.Meaning.{Meaning, block, written}
 use Rattle.definition.specs.declared.registers.LastWord.{LastWord}
 use Rattle.definition.specs.declared.registers.Position.{Position}
 use Rattle.definition.specs.Machine.{Machine, with_blocks, with_high, reading, dict_of, blk}
-use Rattle.definition.specs.Asked.{Asked, refused, given, ask, ◌>>=◌, ◌>>◌, quietly}
+use Rattle.definition.specs.Asked.{Asked, refused, given, ask, ◌>>◌, quietly}
 use Rattle.definition.specs.Text.{buffer_of}
 use Rattle.definition.specs.Kernel
 use Rattle.definition.specs.Kernel.{BlocksWord}

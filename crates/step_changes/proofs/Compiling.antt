@@ -7,7 +7,6 @@ use Rattle.std.proofs.lemmas.Bool.{leb-true, and_parts, true≢false}
 use Rattle.image.specs.Cells.{cell, Bytes}
 use Rattle.entries.specs.Entries.{first_at, token_of}
 use Rattle.dictionary.specs.Dict.{Dict, dp, appended}
-use Rattle.forgetting.specs.Changes.{does}
 use Rattle.forgetting.proofs.Trims.{append-bytes}
 use Rattle.definition.specs.declared.registers.Kind.{Kind}
 use Rattle.definition.specs.declared.registers.Kind.TheVariants.{If, Begin, While, Do}

@@ -31,7 +31,7 @@ use Rattle.step_changes.specs.Laws.{Quietly, stays, and_then, Begins, Turns}
 use Rattle.step_changes.proofs.Known.{known}
 use Rattle.step_changes.proofs.Ranges.{bytes_none, bytes_more, bytes_cell, bytes_take, bytes_replicate, length-cell}
 use Rattle.step_changes.proofs.Leading.{Leads, leads_ask, nth_cell, with_popped}
-use Rattle.step_changes.proofs.Plain.{quiet_if, low_cell}
+use Rattle.step_changes.proofs.Plain.{low_cell}
 use Rattle.step_changes.proofs.Spacing.{here_leads}
 use Rattle.step_changes.proofs.Changing.{no_marks, same_changed, with_change, change_leads, with_compiling_lem, appended_quietly}
 use Rattle.step_changes.proofs.Restated.{all_within}

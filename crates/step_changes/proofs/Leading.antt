@@ -9,7 +9,7 @@ use Rattle.image.specs.Cells.{Bytes}
 use Rattle.dictionary.specs.Dict.{Dict}
 use Rattle.kernel.specs.Boot.{boot_dict}
 use Rattle.forgetting.specs.Law.{Run}
-use Rattle.definition.specs.Machine.{Machine, Stacks, Text, with_cells, with_returns, with_ip, with_text, with_high, with_stacks, dict_of, here}
+use Rattle.definition.specs.Machine.{Machine, Stacks, Text, with_cells, with_returns, with_ip, with_text, with_high, with_stacks, dict_of}
 use Rattle.definition.specs.Asked.{Asked, refused, given, ask, ◌>>=◌, ◌>>◌, if◌then◌else◌, After}
 use Rattle.definition.specs.Stacks.{nth, nth_return, popped, pushed, popped_returns, pushed_returns, has_room, replaced}
 use Rattle.step_changes.specs.Steady.{Cells, InOpen, StacksHold, TextHolds, Steady}

@@ -10,7 +10,7 @@ use Rattle.numbers.specs.Cells as numbers
 use Rattle.numbers.specs.Cells.{is_negative}
 use Rattle.numbers.specs.Division.{Signed, Divided, signed, product, floored, same_side, two_sides, cell_of}
 use Rattle.definition.specs.Machine.{Machine, dp, ip, with_cells, with_returns, dict_of}
-use Rattle.definition.specs.Asked.{ask, ◌>>=◌, ◌>>◌, if◌then◌else◌, quietly, typing}
+use Rattle.definition.specs.Asked.{ask, ◌>>◌, if◌then◌else◌, quietly, typing}
 use Rattle.definition.specs.Kernel
 use Rattle.definition.specs.Kernel.{CellsWord, TypingWord, ReturnsWord}
 use Rattle.definition.specs.Stacks.{nth, nth_return, popped, pushed, popped_returns, pushed_returns, has_cells, has_room, has_returns, has_return_room, go_to, roll, do_cells}

@@ -3,7 +3,7 @@ use Rattle.std.proofs.Common.{◌≡◌, ℕ, zero, suc, ◌+◌, ◌/◌, ◌%�
 use Rattle.std.specs.List.{AllByRecursion as All}
 use Rattle.std.proofs.lemmas.List.{get_or-drop, length-take, length-drop, length-append}
 use Rattle.image.specs.Cells.{cell, cell_at, Bytes}
-use Rattle.image.specs.Writes.{overwritten, moved_up}
+use Rattle.image.specs.Writes.{overwritten}
 use Rattle.forgetting.proofs.Trims.{append-bytes}
 
 -- what holds of every element and of the default holds of what is read

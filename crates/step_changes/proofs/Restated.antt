@@ -10,7 +10,7 @@ use Rattle.definition.specs.Calls
 use Rattle.definition.specs.Calls.{Called}
 use Rattle.fault.specs.Numbers.{fault_of}
 use Rattle.definition.specs.Machine.{Machine, told, offset, reading_on, with_marks, changed}
-use Rattle.definition.specs.Asked.{Asked, refused, given, ask, ◌>>=◌, ◌>>◌, After, quietly}
+use Rattle.definition.specs.Asked.{Asked, refused, given, ask, ◌>>◌, After, quietly}
 use Rattle.definition.specs.Stacks.{pick}
 use Rattle.definition.specs.Define.{fits}
 use Rattle.definition.specs.Text.{Taken}

@@ -9,7 +9,7 @@ use Rattle.numbers.specs.Cells.{flag, magnitude, is_negative}
 use Rattle.entries.specs.Entries.{token_of}
 use Rattle.dictionary.specs.Dict.{Dict}
 use Rattle.definition.specs.Machine.{Machine, ip}
-use Rattle.definition.specs.Asked.{Asked, ask, ◌>>=◌, ◌>>◌, if◌then◌else◌, After}
+use Rattle.definition.specs.Asked.{Asked, ask, ◌>>◌, if◌then◌else◌, After}
 use Rattle.fault.specs.declared.Reason.TheVariants.{NoDefinition, DefinitionOpen, WordRunning, NoWordRunning}
 use Rattle.definition.specs.Kernel
 use Rattle.definition.specs.Kernel.{Row, Asks, Action, stack_rows, space_rows, defining_rows, inside_rows}

@@ -15,7 +15,7 @@ use Rattle.forgetting.specs.Law.{Run}
 use Rattle.forgetting.proofs.Trims.{append-bytes}
 use Rattle.definition.specs.declared.registers.Position.{Position}
 use Rattle.definition.specs.Machine.{Machine, ip, dict_of}
-use Rattle.definition.specs.Asked.{Asked, refused, given, ask, ◌>>=◌, ◌>>◌, if◌then◌else◌, After}
+use Rattle.definition.specs.Asked.{Asked, refused, given, ◌>>=◌, ◌>>◌, if◌then◌else◌, After}
 use Rattle.definition.specs.Text.{Taken, next_word, no_word_left, is_name, ask_found, ask_there}
 use Rattle.definition.specs.Kernel
 use Rattle.definition.specs.Kernel.{Row, Action}

@@ -1,6 +1,5 @@
 -- A story: the line CREATE A FORGET A after boot.
-use Rattle.std.proofs.Common.{◌≡◌, ℕ, true, false, List, [], length, codes, refl, arith, lit≤}
-use Rattle.image.specs.Cells.{Bytes}
+use Rattle.std.proofs.Common.{◌≡◌, ℕ, false, List, [], codes, refl, arith, lit≤}
 use Rattle.store.specs.Meaning.{Meaning}
 use Rattle.definition.specs.Machine.{Machine}
 use Rattle.definition.specs.Asked.{After, began, forgot, no_news}

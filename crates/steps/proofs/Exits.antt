@@ -1,5 +1,5 @@
 -- The questions on data cells and the exits of a word, as the definition puts them.
-use Rattle.std.proofs.Common.{◌≡◌, ℕ, ◌+◌, ◌-◌, ◌<◌, ◌≤◌, Bool, true, false, leb, List, [], ◌∷◌, ◌++◌, length, get_or, drop, Ok, Err, Result, sym, refl, ap, ◌∙◌, arith}
+use Rattle.std.proofs.Common.{◌≡◌, ℕ, ◌+◌, ◌-◌, ◌<◌, ◌≤◌, true, false, leb, List, [], ◌∷◌, length, drop, Ok, Err, Result, sym, refl, ap, ◌∙◌, arith}
 use Rattle.std.proofs.lemmas.Bool.Decides.{nat_tests}
 use Rattle.fault.specs.declared.Fault.{Fault}
 use Rattle.fault.specs.declared.Reason.{Reason}
@@ -10,12 +10,12 @@ use Rattle.stacks.proofs.Laws.{length_stack, drop_stack}
 use Rattle.definition.specs.declared.registers.Mark.{Mark}
 use Rattle.definition.specs.declared.ranged.Registers.{Registers}
 use Rattle.definition.specs.Machine.{Machine, told, with_cells}
-use Rattle.definition.specs.Asked.{Asked, refused, given, After, quietly}
+use Rattle.definition.specs.Asked.{Asked, refused, After, quietly}
 use Rattle.definition.specs.View.{lent, view_of}
 use Rattle.fault.specs.declared.Reason.TheVariants.{StackOverflow}
 use Rattle.definition.specs.Stacks.{has_cells, has_room, popped, replaced}
 use Rattle.steps.specs.Seats.{told_by, with_cell_depth}
-use Rattle.steps.specs.Does.{seen, Refuses, Does}
+use Rattle.steps.specs.Does.{seen, Does}
 
 pub yes : (a b : ℕ) → a ≤ b → leb a b ≡ true
 yes a b h = grind (arith, nat_tests)

@@ -6,7 +6,7 @@ use Rattle.store.specs.Meaning.{Meaning}
 use Rattle.definition.specs.declared.registers.Mark.{Mark}
 use Rattle.definition.specs.declared.ranged.Registers.{Registers}
 use Rattle.definition.specs.Machine.{Machine, told}
-use Rattle.definition.specs.Asked.{Asked, refused, given, After, quietly, typing}
+use Rattle.definition.specs.Asked.{Asked, refused, given, After, quietly}
 use Rattle.definition.specs.Run.{cleared}
 use Rattle.definition.specs.View.{lent, view_of}
 use Rattle.definition.specs.Words.{Argument, row_of, perform, do_kernel}

@@ -4,7 +4,6 @@ use Rattle.fault.specs.declared.Place.{Place}
 use Rattle.fault.specs.Numbers.{place_of}
 use Rattle.definition.specs.declared.registers.Seat.{Seat}
 use Rattle.definition.specs.declared.registers.Depths.{Depths}
-use Rattle.definition.specs.declared.registers.Flow.{Flow}
 
 -- BLK, and the last word's place and length
 abbrev pub told_by : Seat → Place

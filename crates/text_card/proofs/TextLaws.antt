@@ -2,7 +2,6 @@
 use Rattle.std.proofs.Common.{◌≡◌, ℕ, zero, suc, ◌+◌, ◌-◌, ◌*◌, ◌/◌, ◌%◌, ◌<◌, ◌≤◌, true, false, eqb, leb, List, [], ◌∷◌, ◌++◌, length, get_or, take, drop, replicate, sym, refl, ap, ◌∙◌, inl, inr, arith, leb-true}
 use Rattle.std.proofs.lemmas.List.{append_assoc, append-nil, drop_at, drop-drop, drop-replicate, drop-take, length-append, length-replicate, replicate_more, take_at, take-replicate, take-take}
 use Rattle.std.proofs.lemmas.Bool.{and_from, and_parts, cond-true, cases_Bool, cond-false, eq-eqb, le-leb}
-use Rattle.store.specs.Meaning.{block}
 use Rattle.store.specs.Cards.{blocks_of, card_of, is_whole, read_only_card, whole_blocks}
 use Rattle.text_card.specs.Texts.{LinesInBlocks, all_fit, blocks_for, is_text_card, laid_out, lines_of, padded, text_blocks, text_card}
 use Rattle.store.specs.Soundness.{get_or-blocks_of}

@@ -8,7 +8,6 @@ use Rattle.definition.specs.Asked.{Asked, refused, given}
 use Rattle.fault.specs.declared.Reason.TheVariants.{NothingFollows}
 use Rattle.definition.specs.Text.{Taken, text_of, take_to}
 use Rattle.definition.specs.declared.ranged.Registers.{Registers}
-use Rattle.definition.specs.declared.registers.Seat.{Seat}
 use Rattle.fault.specs.declared.Fault.{Fault}
 use Rattle.fault.specs.Numbers.{fault_of}
 use Rattle.steps.specs.Seats.{told_by}

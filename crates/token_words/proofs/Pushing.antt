@@ -12,8 +12,7 @@ use Rattle.image.proofs.Laws.{length_low, cell_low}
 use Rattle.definition.specs.declared.registers.Mark.{Mark}
 use Rattle.definition.specs.declared.ranged.Registers.{Registers}
 use Rattle.definition.specs.Machine.{Machine}
-use Rattle.definition.specs.Asked.{Asked, refused, After, quietly, ask, ◌>>◌}
-use Rattle.definition.specs.Kernel
+use Rattle.definition.specs.Asked.{Asked, refused, After, quietly}
 use Rattle.definition.specs.Words.{Argument, perform, other_word}
 use Rattle.definition.specs.Stacks.{has_cells, nth, replaced}
 use Rattle.definition.specs.Flow.{in_dictionary}

@@ -1,13 +1,13 @@
 -- Laws of the vocabulary chain.
-use Rattle.std.proofs.Common.{◌≡◌, ℕ, zero, suc, ◌+◌, ◌-◌, ◌*◌, ◌<◌, ◌≤◌, max, Bool, true, false, cond, ◌&&◌, ◌||◌, eqb, ltb, leb, ◌≢◌, ◌⊎◌, List, [], ◌∷◌, length, get_or, take, sym, refl, ap, ◌∙◌, subst, inl, inr, arith}
-use Rattle.std.proofs.lemmas.Bool.{eqb-true, eqb-false, eq-eqb, ne_eqb, ltb-true, ltb-false, leb-true, lt-ltb, le-ltb, and_parts, or_cases, cases_lt, cases_eq, cond-true, cond-false, false≢true}
+use Rattle.std.proofs.Common.{◌≡◌, ℕ, zero, suc, ◌+◌, ◌-◌, ◌*◌, ◌<◌, ◌≤◌, max, Bool, true, false, ◌&&◌, ◌||◌, eqb, ltb, leb, ◌≢◌, ◌⊎◌, List, [], ◌∷◌, length, take, sym, refl, ap, ◌∙◌, inl, inr, arith}
+use Rattle.std.proofs.lemmas.Bool.{eq-eqb, ne_eqb, ltb-true, leb-true, lt-ltb, le-ltb, and_parts, or_cases, cases_eq, cond-true, cond-false, false≢true}
 use Rattle.std.proofs.lemmas.List.{get_or-take}
-use Rattle.image.specs.Cells.{cell_at, at, set_cell}
-use Rattle.dictionary.specs.Trim.{fall, trim_voc, trim_vocs, chain, left, link_of, youngest_in, youngest}
+use Rattle.image.specs.Cells.{cell_at, at}
+use Rattle.dictionary.specs.Trim.{trim_voc, trim_vocs, chain, left, link_of, youngest_in, youngest}
 use Rattle.trimming.proofs.CellLaws.{cell_of_bytes, at_other, length-set_cell}
 use Rattle.dictionary.specs.Trim.{in_chain, chained, threads}
 use Rattle.trimming.specs.Chains.{Falls, KeptAt, Kept, none, some}
-use Rattle.trimming.proofs.FallLaws.{threads_fall, falls_agree, trim_step, trim_done}
+use Rattle.trimming.proofs.FallLaws.{threads_fall, falls_agree}
 
 -- THE CHAIN, as it is asked
 pub in_chain_parts : (low : List ℕ) (w before k : ℕ) → in_chain low w before k ≡ true → (266 ≤ k) × (k + 2 ≤ before) × ((w < k - 8) ⊎ ((k + 4 ≤ w) × (threads low w (k - 8) ≡ true)))

@@ -1,9 +1,9 @@
 -- Laws of falling heads.
-use Rattle.std.proofs.Common.{◌≡◌, ℕ, zero, suc, ◌+◌, ◌-◌, ◌*◌, ◌<◌, ◌≤◌, Bool, true, false, cond, ◌&&◌, ◌||◌, eqb, ltb, leb, ◌≢◌, ◌⊎◌, List, [], ◌∷◌, length, get_or, is_some, Some, None, Option, sym, refl, ap, ◌∙◌, subst, inl, inr, arith}
-use Rattle.std.proofs.lemmas.Bool.{eqb-true, eqb-false, ltb-true, ltb-false, leb-true, lt-ltb, le-ltb, and_parts, cases_lt, cond-true, cond-false, false≢true}
+use Rattle.std.proofs.Common.{◌≡◌, ℕ, zero, suc, ◌+◌, ◌-◌, ◌*◌, ◌<◌, ◌≤◌, Bool, true, false, ltb, List, length, is_some, Some, None, Option, sym, refl, ap, ◌∙◌, subst, inl, inr, arith}
+use Rattle.std.proofs.lemmas.Bool.{lt-ltb, le-ltb, and_parts, cases_lt, cond-true, cond-false}
 use Rattle.image.specs.Cells.{cell_at, at, set_cell}
 use Rattle.dictionary.specs.Trim.{fall, trim_voc}
-use Rattle.trimming.proofs.CellLaws.{cell_of_bytes, cell_other, at_other, length-set_cell}
+use Rattle.trimming.proofs.CellLaws.{cell_of_bytes, at_other, length-set_cell}
 use Rattle.trimming.proofs.CellLaws.{fall_down, fall_step}
 use Rattle.dictionary.specs.Trim.{ordered}
 use Rattle.dictionary.specs.Trim.{drops, fell, lands, falls_at, threads}

@@ -10,7 +10,7 @@ use Rattle.image.proofs.Laws.{cell_high, get_or_low, length_low}
 use Rattle.numbers.specs.Text.{is_base, signed_text, unsigned_text}
 use Rattle.definition.specs.declared.registers.Mark.{Mark}
 use Rattle.definition.specs.declared.ranged.Registers.{Registers}
-use Rattle.definition.specs.Machine.{Machine, dp, ip, with_ip}
+use Rattle.definition.specs.Machine.{Machine, ip, with_ip}
 use Rattle.definition.specs.Asked.{Asked, refused, After, typing}
 use Rattle.definition.specs.Kernel
 use Rattle.definition.specs.Kernel.{TypingWord}

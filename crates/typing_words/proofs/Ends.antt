@@ -1,5 +1,5 @@
 -- The ends of a word that types, from what the code knows there.
-use Rattle.std.proofs.Common.{◌≡◌, ℕ, ◌+◌, ◌-◌, ◌<◌, ◌≤◌, Bool, true, false, List, [], ◌∷◌, ◌++◌, length, take, Ok, Err, sym, refl, ap, ◌∙◌, arith}
+use Rattle.std.proofs.Common.{◌≡◌, ℕ, ◌-◌, ◌<◌, Bool, true, false, List, [], length, take, Ok, Err, sym, refl, ap, ◌∙◌, arith}
 use Rattle.std.proofs.lemmas.List.{append-nil}
 use Rattle.fault.specs.declared.Fault.{Fault}
 use Rattle.fault.specs.declared.Reason.{Reason}
@@ -8,7 +8,7 @@ use Rattle.store.specs.Meaning.{Meaning}
 use Rattle.definition.specs.declared.registers.Mark.{Mark}
 use Rattle.definition.specs.declared.ranged.Registers.{Registers}
 use Rattle.definition.specs.Machine.{Machine}
-use Rattle.definition.specs.Asked.{Asked, refused, given, After, typing, no_news}
+use Rattle.definition.specs.Asked.{Asked, refused, After, typing, no_news}
 use Rattle.definition.specs.Words.{Argument}
 use Rattle.definition.specs.Stacks.{popped}
 use Rattle.steps.specs.declared.progress.Progress.{Progress}

@@ -1,7 +1,7 @@
 -- What is typed, read from the image or made on the spot.
-use Rattle.std.proofs.Common.{◌≡◌, ℕ, suc, ◌+◌, ◌-◌, ◌<◌, ◌≤◌, true, ◌⊎◌, List, [], ◌∷◌, ◌++◌, length, get_or, take, drop, replicate, sym, refl, ap, ◌∙◌, inl, inr, arith, drop-cons}
+use Rattle.std.proofs.Common.{◌≡◌, ℕ, ◌+◌, ◌-◌, ◌<◌, ◌≤◌, true, ◌⊎◌, List, [], ◌∷◌, ◌++◌, length, take, drop, replicate, sym, ap, ◌∙◌, inl, inr, arith, drop-cons}
 use lib.Seq.{take-append-add, drop-append-add}
-use Rattle.std.proofs.lemmas.List.{length-append, length-drop, length-take-le, length-replicate, get_or-replicate, take-take, drop-take, drop-drop}
+use Rattle.std.proofs.lemmas.List.{length-append, length-drop, length-take-le, get_or-replicate, take-take, drop-take, drop-drop}
 use Rattle.image.specs.Cells.{zeros}
 use Rattle.image.specs.Views.{low_of, high_of}
 use Rattle.space_words.specs.Numbers.{reachable}

@@ -1,4 +1,4 @@
-use Rattle.std.proofs.Common.{◌≡◌, ◌+◌, ◌≤◌, List, length, set, ap, ◌∙◌, arith}
+use Rattle.std.proofs.Common.{◌+◌, ◌≤◌, length, set, ap, ◌∙◌, arith}
 use Rattle.image.specs.Cells.{cell, set_cell}
 use Rattle.image.proofs.Overwriting.{overwritten_cell}
 use Rattle.image.proofs.Laws.{carried}

@@ -1,4 +1,4 @@
-use Rattle.std.proofs.Common.{◌≡◌, sym, refl, ap, ◌∙◌, arith}
+use Rattle.std.proofs.Common.{refl, ◌∙◌, arith}
 use Rattle.dictionary.proofs.Growing.{outside_then}
 use Rattle.kernel.specs.Table.{kernel}
 use Rattle.kernel.specs.Bytes.{rows_in, is_table, all_below128}

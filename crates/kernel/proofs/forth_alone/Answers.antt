@@ -1,5 +1,5 @@
-use Rattle.std.proofs.Common.{◌≡◌, sym, refl, ap, ◌∙◌, arith}
-use Rattle.dictionary.specs.Dict.{Dict, with_low}
+use Rattle.std.proofs.Common.{refl, ap, ◌∙◌, arith}
+use Rattle.dictionary.specs.Dict.{with_low}
 use Rattle.dictionary.proofs.Growing.{outside_written}
 use Rattle.kernel.specs.Boot.{forth_alone}
 use Rattle.kernel.proofs.Loads.{forth_low}

@@ -1,4 +1,4 @@
-use Rattle.std.proofs.Common.{◌≡◌, ◌+◌, length, sym, refl, ap, ◌∙◌, arith}
+use Rattle.std.proofs.Common.{◌+◌, length, arith}
 use Rattle.image.proofs.Laws.{length_low}
 use Rattle.dictionary.specs.Lent.{dict_of}
 use Rattle.kernel.proofs.Loads.{fits, ended}

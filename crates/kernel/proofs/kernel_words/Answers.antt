@@ -1,7 +1,7 @@
-use Rattle.std.proofs.Common.{◌≡◌, ◌+◌, ◌-◌, ◌%◌, ◌<◌, length, get_or, take, drop, sym, refl, ap, ◌∙◌, subst, arith}
+use Rattle.std.proofs.Common.{◌≡◌, ◌+◌, ◌-◌, ◌%◌, ◌<◌, length, get_or, take, drop, sym, refl, ◌∙◌, subst, arith}
 use Rattle.std.proofs.lemmas.List.{length-take-le, length-drop}
 use Rattle.dictionary.proofs.Growing.{outside_none, outside_then}
-use Rattle.kernel.proofs.Loads.{Loading, loading_start, loading_first, loading_more, loading_end}
+use Rattle.kernel.proofs.Loads.{loading_start, loading_first, loading_more, loading_end}
 use Rattle.kernel.proofs.kernel_words.Goals as goal
 
 pub words-init : goal.words-init

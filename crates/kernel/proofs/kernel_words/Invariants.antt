@@ -1,4 +1,4 @@
-use Rattle.std.proofs.Common.{◌≡◌, ◌-◌, length}
+use Rattle.std.proofs.Common.{◌-◌, length}
 use Rattle.dictionary.specs.Lent.{Outside, dict_of}
 use Rattle.kernel.specs.Boot.{with_kernel}
 use Rattle.kernel.specs.Bytes.{rows_in}

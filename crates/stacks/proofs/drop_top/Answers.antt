@@ -1,4 +1,4 @@
-use Rattle.std.proofs.Common.{◌≡◌, sym, refl}
+use Rattle.std.proofs.Common.{sym}
 use Rattle.stacks.proofs.Laws.{drop_stack}
 use Rattle.stacks.proofs.drop_top.Goals as goal
 

@@ -1,8 +1,8 @@
-use Rattle.std.proofs.Common.{◌≡◌, sym, refl, ap, ◌∙◌, arith}
+use Rattle.std.proofs.Common.{arith}
 use Rattle.std.proofs.lemmas.Result.{err_from_is_err_and}
 use Rattle.image.proofs.Laws.{length_low}
 use Rattle.dictionary.specs.Lent.{dict_of}
-use Rattle.vocabularies.proofs.Links.{Walking, walking_start, walking_more, walking_end, walking_broken, link_parts, link_some, link_none, link_broken, asked_broken, asked_found}
+use Rattle.vocabularies.proofs.Links.{walking_start, walking_more, walking_end, walking_broken, link_parts, link_some, link_none, link_broken, asked_broken, asked_found}
 use Rattle.vocabularies.proofs.is_on_chain.Goals as goal
 
 pub chain-init : goal.chain-init

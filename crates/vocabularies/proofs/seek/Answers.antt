@@ -1,6 +1,4 @@
-use Rattle.std.proofs.Common.{◌≡◌, true, false, ◌&&◌, sym, refl, ap, ◌∙◌, arith}
-use Rattle.std.proofs.lemmas.Result.{err_from_is_err_and}
-use Rattle.std.proofs.lemmas.Bool.{and_parts, leb-true}
+use Rattle.std.proofs.Common.{arith}
 use Rattle.image.proofs.Laws.{length_low}
 use Rattle.dictionary.specs.Lent.{dict_of}
 use Rattle.vocabularies.proofs.Links.{chain_says, seek_no, seek_yes, stays_is, both}

@@ -1,4 +1,4 @@
-use Rattle.std.proofs.Common.{sym, refl, ap, ◌∙◌}
+use Rattle.std.proofs.Common.{sym, refl, ◌∙◌}
 use Rattle.std.proofs.lemmas.Result.{err_from_is_err_and}
 use Rattle.block_words.proofs.Views.{bring_held, bring_refused, bring_done}
 use Rattle.block_words.proofs.bringing.bring.Goals as goal

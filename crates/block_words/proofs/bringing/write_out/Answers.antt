@@ -1,6 +1,6 @@
 use Rattle.std.proofs.Common.{refl}
 use Rattle.std.proofs.lemmas.Result.{err_from_is_err_and}
-use Rattle.block_words.proofs.Views.{not_updated, none_held, wrote, write_refused}
+use Rattle.block_words.proofs.Views.{wrote, write_refused}
 use Rattle.block_words.proofs.bringing.write_out.Goals as goal
 
 pub returns-in_err-write : goal.returns-in_err-write

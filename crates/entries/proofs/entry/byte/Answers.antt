@@ -1,4 +1,4 @@
-use Rattle.std.proofs.Common.{◌≡◌, get_or, sym, ap, ◌∙◌, arith}
+use Rattle.std.proofs.Common.{get_or, sym, ap, ◌∙◌, arith}
 use Rattle.image.proofs.Laws.{get_or_low}
 use Rattle.entries.proofs.entry.byte.Goals as goal
 

@@ -1,4 +1,4 @@
-use Rattle.std.proofs.Common.{◌≡◌, ◌+◌, ◌<◌, length, get_or, sym, refl, ap, ◌∙◌, arith}
+use Rattle.std.proofs.Common.{◌≡◌, ◌+◌, sym, ap, ◌∙◌, arith}
 use Rattle.image.specs.Views.{low_of}
 use Rattle.image.proofs.Laws.{get_or_low}
 use Rattle.entries.specs.Entries.{first_at, spelled, bytes_are}

@@ -1,10 +1,10 @@
-use Rattle.std.proofs.Common.{◌≡◌, ◌<◌, length, Err, sym, refl, ap, ◌∙◌, subst, arith}
+use Rattle.std.proofs.Common.{Err, sym, ap, ◌∙◌, arith}
 use Rattle.std.proofs.lemmas.Result.{err_from_is_err_and}
 use Rattle.image.specs.Views.{low_of}
 use Rattle.image.proofs.Laws.{length_low}
 use Rattle.entries.specs.Search.{hit}
 use Rattle.entries.specs.Threads.{answered}
-use Rattle.entries.proofs.Walks.{At, in_parts, first_above, at_start, at_linked, at_end_lem, at_broken, at_hit, link_some, link_none, link_broken, finds_youngest}
+use Rattle.entries.proofs.Walks.{in_parts, first_above, at_linked, at_end_lem, at_broken, at_hit, link_some, link_none, link_broken, finds_youngest}
 use Rattle.entries.proofs.thread.search_thread.Goals as goal
 
 pub returns-in_err-e : goal.returns-in_err-e

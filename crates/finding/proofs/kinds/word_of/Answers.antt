@@ -1,4 +1,4 @@
-use Rattle.std.proofs.Common.{◌≡◌, sym, ap, ◌∙◌}
+use Rattle.std.proofs.Common.{sym, ◌∙◌}
 use Rattle.std.proofs.lemmas.Result.{err_from_is_err_and}
 use Rattle.texts.proofs.Naming.{name_least, name_ascii}
 use Rattle.finding.proofs.Answering.{entry_in_lem, interpreting, no_name, broken_link, at_entry, a_number, not_found}

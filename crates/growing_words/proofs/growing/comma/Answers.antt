@@ -1,4 +1,4 @@
-use Rattle.std.proofs.Common.{take, replicate, refl, ap, ◌∙◌}
+use Rattle.std.proofs.Common.{take, refl, ap, ◌∙◌}
 use Rattle.std.proofs.lemmas.Result.{err_from_is_err_and}
 use Rattle.image.specs.Cells.{cell}
 use Rattle.image.specs.Writes.{overwritten}

@@ -1,4 +1,4 @@
-use Rattle.std.proofs.Common.{◌≡◌, ◌+◌, true, false, cond, sym, refl, ap, ◌∙◌, arith}
+use Rattle.std.proofs.Common.{◌≡◌, ◌+◌, cond, sym, refl, ap, ◌∙◌, arith}
 use Rattle.kits.specs.Listing.{used_lines}
 use Rattle.kits.proofs.LineLaws.{used_more}
 use Rattle.kits.proofs.listing.used_lines.Goals as goal

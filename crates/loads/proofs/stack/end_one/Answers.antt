@@ -1,5 +1,4 @@
-use Rattle.std.proofs.Common.{◌-◌, ◌≤◌, refl, ap}
-use Rattle.definition.specs.declared.registers.Position.{Position}
+use Rattle.std.proofs.Common.{◌-◌, refl}
 use Rattle.loads.proofs.Stacking.{closed}
 use Rattle.loads.proofs.stack.end_one.Goals as goal
 

@@ -1,4 +1,4 @@
-use Rattle.std.proofs.Common.{◌+◌, get_or, replicate, sym, refl, ap, ◌∙◌, arith}
+use Rattle.std.proofs.Common.{◌+◌, refl, ap, ◌∙◌, arith}
 use Rattle.numbers.specs.Cells.{wrap}
 use Rattle.std.proofs.lemmas.Result.{err_from_is_err_and}
 use Rattle.definition.specs.Kernel

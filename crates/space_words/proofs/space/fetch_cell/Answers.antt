@@ -1,8 +1,7 @@
-use Rattle.std.proofs.Common.{get_or, replicate, sym, refl, ap, ◌∙◌, arith}
+use Rattle.std.proofs.Common.{ap, ◌∙◌, arith}
 use Rattle.std.proofs.lemmas.Result.{err_from_is_err_and}
 use Rattle.definition.specs.Kernel
-use Rattle.image.specs.Cells.{cell, cell_at}
-use Rattle.image.specs.Writes.{overwritten}
+use Rattle.image.specs.Cells.{cell_at}
 use Rattle.space_words.proofs.Doing.{fetch_acts}
 use Rattle.space_words.proofs.Ends.{space_short, fetch_too_far, fetch_done}
 use Rattle.space_words.proofs.space.fetch_cell.Goals as goal

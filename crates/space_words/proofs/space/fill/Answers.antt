@@ -1,7 +1,6 @@
-use Rattle.std.proofs.Common.{◌%◌, get_or, replicate, sym, refl, ap, ◌∙◌, arith}
+use Rattle.std.proofs.Common.{◌%◌, replicate, refl, ap, ◌∙◌, arith}
 use Rattle.std.proofs.lemmas.Result.{err_from_is_err_and}
 use Rattle.definition.specs.Kernel
-use Rattle.image.specs.Cells.{cell, cell_at}
 use Rattle.image.specs.Writes.{overwritten}
 use Rattle.space_words.proofs.Doing.{fill_acts}
 use Rattle.space_words.proofs.Ends.{space_short, fill_too_far, fill_done}

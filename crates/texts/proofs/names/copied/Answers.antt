@@ -1,4 +1,4 @@
-use Rattle.std.proofs.Common.{◌≡◌, refl, ap, ◌∙◌, arith}
+use Rattle.std.proofs.Common.{refl, ap, ◌∙◌}
 use Rattle.definition.specs.Text.{is_name}
 use Rattle.texts.proofs.Naming.{copy_size, copy_front}
 use Rattle.texts.proofs.names.copied.Goals as goal

@@ -1,5 +1,5 @@
-use Rattle.std.proofs.Common.{◌≡◌, ◌<◌, ◌≤◌, length, sym, ap, ◌∙◌, arith}
-use Rattle.texts.proofs.Naming.{long_is_none, empty_is_none, name_in_range, graphic_more, graphic_stops, graphic_ends}
+use Rattle.std.proofs.Common.{sym, ◌∙◌, arith}
+use Rattle.texts.proofs.Naming.{graphic_more, graphic_stops, graphic_ends}
 use Rattle.texts.proofs.names.is_name.Goals as goal
 
 pub returns-then-not-is_graphic : goal.returns-then-not-is_graphic

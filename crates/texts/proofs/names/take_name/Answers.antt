@@ -1,4 +1,4 @@
-use Rattle.std.proofs.Common.{◌≡◌, sym, ap, ◌∙◌}
+use Rattle.std.proofs.Common.{sym, ap, ◌∙◌}
 use Rattle.definition.specs.Text.{is_name}
 use Rattle.texts.proofs.Naming.{nothing_follows, bad_name, named}
 use Rattle.texts.proofs.names.take_name.Goals as goal

@@ -1,4 +1,4 @@
-use Rattle.std.proofs.Common.{◌≡◌, ◌<◌, ◌≤◌, length, sym, ap, ◌∙◌, arith}
+use Rattle.std.proofs.Common.{◌<◌, length, sym, ◌∙◌, arith}
 use Rattle.definition.specs.Text.{separates}
 use Rattle.texts.proofs.Runs.{run_more, run_stops, run_ends}
 use Rattle.texts.proofs.scanning.behind_separators.Goals as goal

@@ -1,4 +1,4 @@
-use Rattle.std.proofs.Common.{◌≡◌, ◌<◌, ◌≤◌, not, length, sym, ap, ◌∙◌, arith}
+use Rattle.std.proofs.Common.{◌<◌, not, length, sym, ap, ◌∙◌, arith}
 use Rattle.texts.specs.Texts.{other}
 use Rattle.texts.proofs.Runs.{run_more, run_stops, run_ends}
 use Rattle.texts.proofs.scanning.behind_word.Goals as goal

@@ -1,4 +1,4 @@
-use Rattle.std.proofs.Common.{◌≡◌, ◌<◌, ◌≤◌, true, false, length, get_or, ◌∙◌, arith}
+use Rattle.std.proofs.Common.{get_or, ◌∙◌, arith}
 use Rattle.texts.specs.Texts.{differs}
 use Rattle.texts.proofs.Runs.{run_more, run_stops, run_ends, differs_yes, differs_no}
 use Rattle.texts.proofs.scanning.place_of.Goals as goal

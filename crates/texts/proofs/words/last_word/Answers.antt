@@ -1,5 +1,4 @@
-use Rattle.std.proofs.Common.{◌≡◌, length, ap, arith}
-use Rattle.texts.specs.Texts.{text_in, text_length}
+use Rattle.std.proofs.Common.{length, ap, arith}
 use Rattle.texts.proofs.Windows.{text_long}
 use Rattle.texts.proofs.words.last_word.Goals as goal
 

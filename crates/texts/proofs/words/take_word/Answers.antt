@@ -1,6 +1,6 @@
 use Rattle.std.proofs.Common.{◌+◌, ◌≤◌, min, refl, ap, ◌∙◌, arith}
-use Rattle.texts.specs.Texts.{read_to, text_length}
-use Rattle.texts.proofs.Windows.{none_left, took, text_short}
+use Rattle.texts.specs.Texts.{read_to}
+use Rattle.texts.proofs.Windows.{none_left, took}
 use Rattle.texts.proofs.words.take_word.Goals as goal
 
 pub returns-then-word-eq0 : goal.returns-then-word-eq0

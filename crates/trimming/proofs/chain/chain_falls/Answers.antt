@@ -1,5 +1,5 @@
-use Rattle.std.proofs.Common.{◌≡◌, sym, refl, ap, ◌∙◌, arith}
-use Rattle.trimming.proofs.ChainLaws.{Asking, in_chain_parts, asking_start, asking_more, asking_end, asking_broken}
+use Rattle.std.proofs.Common.{sym, arith}
+use Rattle.trimming.proofs.ChainLaws.{in_chain_parts, asking_start, asking_more, asking_end, asking_broken}
 use Rattle.trimming.proofs.chain.chain_falls.Goals as goal
 
 pub chain-init : goal.chain-init

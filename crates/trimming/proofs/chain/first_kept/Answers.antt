@@ -1,5 +1,5 @@
-use Rattle.std.proofs.Common.{◌≡◌, sym, refl, ap, ◌∙◌, arith}
-use Rattle.trimming.proofs.ChainLaws.{Skipping, chained_on, skip_facts, skip_kept, kept_link}
+use Rattle.std.proofs.Common.{refl, arith}
+use Rattle.trimming.proofs.ChainLaws.{chained_on, skip_facts, skip_kept, kept_link}
 use Rattle.trimming.proofs.chain.first_kept.Goals as goal
 
 pub chain-init : goal.chain-init

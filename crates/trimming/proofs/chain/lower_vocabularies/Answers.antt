@@ -1,6 +1,6 @@
-use Rattle.std.proofs.Common.{◌≡◌, sym, refl, ap, ◌∙◌, arith}
+use Rattle.std.proofs.Common.{◌∙◌, arith}
 use Rattle.dictionary.proofs.Growing.{outside_none, outside_then}
-use Rattle.trimming.proofs.ChainLaws.{Moving, moving_start, moving_facts, moving_again, moving_end}
+use Rattle.trimming.proofs.ChainLaws.{moving_start, moving_facts, moving_again, moving_end}
 use Rattle.trimming.proofs.chain.lower_vocabularies.Goals as goal
 
 pub chain-init : goal.chain-init

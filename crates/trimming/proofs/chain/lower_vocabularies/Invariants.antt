@@ -1,4 +1,3 @@
-use Rattle.std.proofs.Common.{◌≡◌, drop}
 use Rattle.dictionary.specs.Trim.{chain}
 use Rattle.image.specs.Views.{low_of}
 use Rattle.dictionary.specs.Lent.{Outside}

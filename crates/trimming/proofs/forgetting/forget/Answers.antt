@@ -1,4 +1,4 @@
-use Rattle.std.proofs.Common.{◌≡◌, sym, refl, ap, ◌∙◌, inl, inr, arith}
+use Rattle.std.proofs.Common.{ap, ◌∙◌, arith}
 use Rattle.image.specs.Cells.{cell_at}
 use Rattle.image.specs.Views.{low_of}
 use Rattle.image.proofs.Laws.{length_low}

@@ -1,12 +1,11 @@
-use Rattle.std.proofs.Common.{◌≡◌, sym, refl, ap, ◌∙◌, arith}
+use Rattle.std.proofs.Common.{sym, ap, ◌∙◌, arith}
 use Rattle.image.specs.Cells.{cell_at}
 use Rattle.image.specs.Views.{low_of}
 use Rattle.image.proofs.Laws.{length_low}
-use Rattle.entries.specs.Entries.{first_at}
 use Rattle.entries.proofs.Walks.{first_above}
 use Rattle.dictionary.specs.Lent.{dict_of}
 use Rattle.dictionary.proofs.Growing.{outside_none}
-use Rattle.trimming.proofs.TrimLaws.{Asked, asked, no_space, kernels, trimmed_so, data_low}
+use Rattle.trimming.proofs.TrimLaws.{asked, no_space, kernels, trimmed_so, data_low}
 use Rattle.trimming.proofs.forgetting.trim.Goals as goal
 
 pub first_parameter-requires : goal.first_parameter-requires

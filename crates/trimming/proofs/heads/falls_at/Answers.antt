@@ -1,6 +1,5 @@
-use Rattle.std.proofs.Common.{◌≡◌, sym, refl, ap, ◌∙◌, arith}
+use Rattle.std.proofs.Common.{arith}
 use Rattle.std.proofs.lemmas.Bool.Decides.{nat_tests}
-use Rattle.std.proofs.lemmas.Bool.{eq-eqb, ne_eqb}
 use Rattle.image.proofs.Laws.{length_low}
 use Rattle.trimming.proofs.FallLaws.{falls_is}
 use Rattle.trimming.proofs.heads.falls_at.Goals as goal

@@ -1,7 +1,7 @@
-use Rattle.std.proofs.Common.{◌≡◌, length, sym, refl, ap, ◌∙◌, arith}
+use Rattle.std.proofs.Common.{sym, arith}
 use Rattle.image.proofs.Laws.{length_low}
 use Rattle.trimming.proofs.CellLaws.{in_parts}
-use Rattle.trimming.proofs.FallLaws.{Down, down_start, down_more, down_end, down_broken}
+use Rattle.trimming.proofs.FallLaws.{down_start, down_more, down_end, down_broken}
 use Rattle.trimming.proofs.heads.first_below.Goals as goal
 
 pub links-init : goal.links-init

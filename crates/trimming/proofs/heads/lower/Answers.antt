@@ -1,4 +1,4 @@
-use Rattle.std.proofs.Common.{◌≡◌, sym, refl, ap, ◌∙◌, arith}
+use Rattle.std.proofs.Common.{sym, ap, ◌∙◌}
 use Rattle.image.specs.Cells.{set_cell}
 use Rattle.dictionary.specs.Dict.{Dict}
 use Rattle.image.specs.Views.{low_of}

@@ -1,6 +1,6 @@
-use Rattle.std.proofs.Common.{◌≡◌, ◌+◌, ◌-◌, ◌*◌, ◌<◌, sym, refl, ap, ◌∙◌, arith}
+use Rattle.std.proofs.Common.{◌-◌, sym, refl, ◌∙◌, arith}
 use Rattle.dictionary.proofs.Growing.{outside_none, outside_then}
-use Rattle.trimming.proofs.FallLaws.{Lowering, lower_at, falls_head, trim_done}
+use Rattle.trimming.proofs.FallLaws.{lower_at, falls_head, trim_done}
 use Rattle.trimming.proofs.heads.lower_threads.Goals as goal
 
 pub heads-init : goal.heads-init

@@ -1,4 +1,3 @@
-use Rattle.std.proofs.Common.{◌≡◌, drop}
 use Rattle.dictionary.specs.Trim.{trim_voc}
 use Rattle.image.specs.Views.{low_of}
 use Rattle.dictionary.specs.Lent.{Outside}

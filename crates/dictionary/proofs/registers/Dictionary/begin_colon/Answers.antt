@@ -1,9 +1,9 @@
-use Rattle.std.proofs.Common.{◌≡◌, ◌+◌, ◌≤◌, [], length, sym, refl, ap, ◌∙◌, subst, arith}
+use Rattle.std.proofs.Common.{◌≡◌, ◌+◌, ◌≤◌, length, sym, refl, ap, subst, arith}
 use Rattle.std.proofs.lemmas.Result.{err_from_is_err_and}
 use Rattle.image.proofs.Laws.{length_low}
 use Rattle.entries.specs.Entries.{spelled}
 use Rattle.dictionary.specs.Lent.{dict_of}
-use Rattle.dictionary.proofs.Growing.{accepted, outside_then}
+use Rattle.dictionary.proofs.Growing.{accepted}
 use Rattle.dictionary.proofs.Beginning.{room_ok, still_refused, colon_made, kept_open}
 use Rattle.dictionary.proofs.registers.Dictionary.begin_colon.Goals as goal
 

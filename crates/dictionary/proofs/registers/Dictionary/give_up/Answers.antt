@@ -1,4 +1,4 @@
-use Rattle.std.proofs.Common.{◌≡◌, sym, refl, ap, ◌∙◌, arith}
+use Rattle.std.proofs.Common.{refl, arith}
 use Rattle.dictionary.specs.Lent.{dict_of}
 use Rattle.dictionary.proofs.Beginning.{given_up_lem}
 use Rattle.dictionary.proofs.registers.Dictionary.give_up.Goals as goal

@@ -1,4 +1,4 @@
-use Rattle.std.proofs.Common.{◌≡◌, ◌+◌, set, sym, refl, ap, ◌∙◌, arith}
+use Rattle.std.proofs.Common.{◌+◌, set, ap, ◌∙◌, arith}
 use Rattle.image.specs.Views.{low_of}
 use Rattle.dictionary.specs.Dict.{marked}
 use Rattle.dictionary.specs.Lent.{dict_of}

@@ -1,4 +1,4 @@
-use Rattle.std.proofs.Common.{◌≡◌, sym, ap, ◌∙◌, arith}
+use Rattle.std.proofs.Common.{arith}
 use Rattle.dictionary.specs.Lent.{dict_of}
 use Rattle.dictionary.proofs.Growing.{outside_written}
 use Rattle.dictionary.proofs.Changing.{cell_in, low_only, length-cell}

@@ -1,5 +1,4 @@
-use Rattle.std.proofs.Common.{◌≡◌, length, ap, ◌∙◌, arith}
-use Rattle.image.specs.Cells.{cell}
+use Rattle.std.proofs.Common.{ap, ◌∙◌, arith}
 use Rattle.dictionary.specs.Dict.{appended}
 use Rattle.dictionary.specs.Lent.{dict_of}
 use Rattle.dictionary.proofs.Growing.{bytes_of_cell}

@@ -1,9 +1,6 @@
-use Rattle.std.proofs.Common.{◌≡◌, sym, refl, ap, ◌∙◌, arith}
-use Rattle.entries.specs.Entries.{first_at}
+use Rattle.std.proofs.Common.{arith}
 use Rattle.entries.proofs.Walks.{first_above}
 use Rattle.image.specs.Views.{low_of}
-use Rattle.dictionary.specs.Lent.{dict_of}
-use Rattle.dictionary.proofs.Growing.{outside_then}
 use Rattle.dictionary.proofs.registers.Dictionary.set_does.Goals as goal
 
 pub first_parameter-first-requires : goal.first_parameter-first-requires
