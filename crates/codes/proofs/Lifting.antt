@@ -1,5 +1,5 @@
 -- From what a group of words promises to what executing by code promises.
-use Rattle.std.proofs.Common.{◌≡◌, ℕ, ◌-◌, Bool, true, false, not, ◌&&◌, eqb, leb, List, [], ◌∷◌, length, take, Ok, Err, Result, sym, refl, ap, ◌∙◌, subst, arith}
+use Rattle.std.proofs.Common.{◌≡◌, ℕ, ◌-◌, Bool, true, false, not, ◌&&◌, eqb, leb, List, [], ◌∷◌, length, take, Ok, Err, Result, sym, refl, ap, ◌∙◌, subst, arith, if◌then◌else◌}
 use Rattle.std.proofs.lemmas.List.{append-nil}
 use Rattle.std.proofs.lemmas.Bool as Tests
 use Rattle.fault.specs.declared.Fault.{Fault}
@@ -10,7 +10,7 @@ use Rattle.store.specs.Meaning.{Meaning}
 use Rattle.definition.specs.declared.registers.Mark.{Mark}
 use Rattle.definition.specs.declared.ranged.Registers.{Registers}
 use Rattle.definition.specs.Machine.{Machine, told, ip}
-use Rattle.definition.specs.Asked.{Asked, refused, given, ask, ◌>>=◌, ◌>>◌, if◌then◌else◌, After, no_news}
+use Rattle.definition.specs.Asked.{Asked, refused, given, ask, ◌>>=◌, ◌>>◌, After, no_news}
 use Rattle.definition.specs.Kernel
 use Rattle.definition.specs.Kernel.{Asks}
 use Rattle.definition.specs.Words.{Argument, taken, all_asked, perform, do_kernel, row_of, other_word}

@@ -1,11 +1,11 @@
 -- What it means that code executes a word by its code.
-use Rattle.std.specs.Prelude.{◌≡◌, ℕ, ◌-◌, ◌&&◌, List, length, Ok, Err, Result, nat_le}
+use Rattle.std.specs.Prelude.{◌≡◌, ℕ, ◌-◌, ◌&&◌, List, length, Ok, Err, Result, nat_le, if◌then◌else◌}
 use Rattle.fault.specs.declared.Fault.{Fault}
 use Rattle.store.specs.Meaning.{Meaning}
 use Rattle.definition.specs.declared.registers.Mark.{Mark}
 use Rattle.definition.specs.declared.ranged.Registers.{Registers}
 use Rattle.definition.specs.Machine.{Machine}
-use Rattle.definition.specs.Asked.{Asked, if◌then◌else◌, After}
+use Rattle.definition.specs.Asked.{Asked, After}
 use Rattle.definition.specs.Words.{row_of, do_kernel, other_word}
 use Rattle.steps.specs.declared.progress.Progress.{Progress}
 use Rattle.steps.specs.declared.progress.Progress.TheVariants.{Went, Full, Finished}

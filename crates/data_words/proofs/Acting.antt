@@ -1,7 +1,7 @@
 -- What each word acts: the kernel table, by group.
-use Rattle.std.proofs.Common.{◌≡◌, ℕ, eqb, [], ◌∷◌, length, refl}
+use Rattle.std.proofs.Common.{◌≡◌, ℕ, eqb, [], ◌∷◌, length, refl, if◌then◌else◌}
 use Rattle.definition.specs.Machine.{Machine, here}
-use Rattle.definition.specs.Asked.{Asked, After, if◌then◌else◌}
+use Rattle.definition.specs.Asked.{Asked, After}
 use Rattle.definition.specs.Kernel
 use Rattle.definition.specs.Kernel.{CellsWord}
 use Rattle.definition.specs.Words.{Argument, perform}

@@ -1,6 +1,6 @@
 -- What the words that leave a cell leave, and what the words of one cell and of two make of their cells, for the functions that compute it; the kernel table says the same.
-use Rattle.std.specs.Prelude.{ℕ, ◌+◌, ◌-◌, ◌*◌, ◌==◌, bit_and, bit_or, bit_xor, nat_lt}
-use Rattle.numbers.specs.Cells.{if◌then◌else◌, wrap, negated, minus, magnitude, less, halved, flag, is_negative}
+use Rattle.std.specs.Prelude.{ℕ, ◌+◌, ◌-◌, ◌*◌, ◌==◌, bit_and, bit_or, bit_xor, nat_lt, if◌then◌else◌}
+use Rattle.numbers.specs.Cells.{wrap, negated, minus, magnitude, less, halved, flag, is_negative}
 use Rattle.data_words.specs.declared.words.LeavingWord.{LeavingWord}
 use Rattle.data_words.specs.declared.words.UnaryWord.{UnaryWord}
 use Rattle.data_words.specs.declared.words.BinaryWord.{BinaryWord}

@@ -1,5 +1,5 @@
 -- A question that is answered by a no finds the lasting parts of the machine as they were before the step, or with the buffer written out.
-use Rattle.std.proofs.Common.{◌≡◌, ℕ, zero, suc, ◌+◌, Bool, true, false, ◌&&◌, eqb, ltb, leb, ◌⊎◌, List, [], ◌∷◌, length, take, drop, Some, None, Option, sym, refl, ap, ◌∙◌, subst, inl, inr}
+use Rattle.std.proofs.Common.{◌≡◌, ℕ, zero, suc, ◌+◌, Bool, true, false, ◌&&◌, eqb, ltb, leb, ◌⊎◌, List, [], ◌∷◌, length, take, drop, Some, None, Option, sym, refl, ap, ◌∙◌, subst, inl, inr, if◌then◌else◌}
 use Rattle.fault.specs.declared.Reason.{Reason}
 use Rattle.fault.specs.declared.Reason.TheVariants.{NothingFollows, BadName, StackUnderflow, BadToken, NoBlock, NotWritable}
 use Rattle.store.specs.Meaning.{Meaning, block, written}
@@ -12,7 +12,7 @@ use Rattle.dictionary.specs.Search.{searched}
 use Rattle.definition.specs.declared.registers.Buffer.{Buffer}
 use Rattle.definition.specs.declared.registers.Position.{Position}
 use Rattle.definition.specs.Machine.{Machine, ip, blk, dict_of, offset, reading_on, with_blocks}
-use Rattle.definition.specs.Asked.{Asked, refused, given, ask, ◌>>=◌, ◌>>◌, if◌then◌else◌, After, quietly}
+use Rattle.definition.specs.Asked.{Asked, refused, given, ask, ◌>>=◌, ◌>>◌, After, quietly}
 use Rattle.definition.specs.Text.{Taken, buffer_of, is_name, take_name, take_to, next_word, no_word_left, ask_found, ask_there}
 use Rattle.numbers.specs.Text.{number_in}
 use Rattle.definition.specs.Kernel

@@ -4,7 +4,6 @@ use Rattle.fault.specs.declared.Reason.{Reason}
 use Rattle.definition.specs.Machine.{Machine}
 
 infixl 1 ◌>>=◌ ◌>>◌
-infixr 2 if◌then◌else◌
 pub data Asked (A : Type 0) : Type 0 where
   refused : Reason → Machine → Asked A
   given : A → Asked A
@@ -19,10 +18,6 @@ a >> b = a >>= λ _. b
 abbrev pub ask : Machine → Reason → Bool → Asked (Unit {0})
 ask m why true = given tt
 ask m why false = refused why m
-
-abbrev pub if◌then◌else◌ : {A : Type 0} → Bool → A → A → A
-if true then x else y = x
-if false then x else y = y
 
 -- What a step says of words: it began the word of this entry, FORGET found the word of this entry, or neither.
 pub data News : Type 0 where

@@ -1,9 +1,9 @@
 -- The block buffer over a store, and LOAD.
-use Rattle.std.specs.Prelude.{ℕ, Bool, true, false, not, ◌&&◌, ◌∷◌, length, Some, None, ◌==◌, nat_eq, nat_lt}
+use Rattle.std.specs.Prelude.{ℕ, Bool, true, false, not, ◌&&◌, ◌∷◌, length, Some, None, ◌==◌, nat_eq, nat_lt, if◌then◌else◌}
 use Rattle.fault.specs.declared.Reason.TheVariants.{StackUnderflow, BadLoad, NoBlock, NotWritable}
 use Rattle.store.specs.Meaning.{block, written}
 use Rattle.definition.specs.Machine.{Machine, with_blocks, reading}
-use Rattle.definition.specs.Asked.{Asked, given, ask, ◌>>=◌, ◌>>◌, if◌then◌else◌, After, quietly}
+use Rattle.definition.specs.Asked.{Asked, given, ask, ◌>>=◌, ◌>>◌, After, quietly}
 use Rattle.definition.specs.Text.{buffer_of}
 use Rattle.definition.specs.Kernel
 use Rattle.definition.specs.Kernel.{BlocksWord}

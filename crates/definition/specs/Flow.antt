@@ -1,11 +1,11 @@
 -- The words that only a definition holds: they read the cells behind their token, and the return stack.
-use Rattle.std.specs.Prelude.{ℕ, ◌+◌, Bool, ◌&&◌, ◌||◌, [], ◌∷◌, take, drop, ◌==◌, nat_eq, nat_le, nat_lt}
+use Rattle.std.specs.Prelude.{ℕ, ◌+◌, Bool, ◌&&◌, ◌||◌, [], ◌∷◌, take, drop, ◌==◌, nat_eq, nat_le, nat_lt, if◌then◌else◌}
 use Rattle.fault.specs.declared.Reason.TheVariants.{StackUnderflow, StackOverflow, ReturnUnderflow, ReturnOverflow, DictionaryFull, BadToken, NotCreated}
 use Rattle.image.specs.Cells.{at, cell, cell_at}
 use Rattle.entries.specs.Entries.{token_of, first_at}
 use Rattle.dictionary.specs.Dict.{appended, does_set}
 use Rattle.definition.specs.Machine.{Machine, dp, ip, with_ip, changed}
-use Rattle.definition.specs.Asked.{Asked, ask, ◌>>◌, if◌then◌else◌, After, quietly, typing}
+use Rattle.definition.specs.Asked.{Asked, ask, ◌>>◌, After, quietly, typing}
 use Rattle.numbers.specs.Cells.{wrap, minus, is_negative, magnitude}
 use Rattle.definition.specs.Kernel
 use Rattle.definition.specs.Kernel.{ReturnsWord, InlineWord}

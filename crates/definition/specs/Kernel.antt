@@ -1,7 +1,6 @@
 -- The kernel words in their order: name, flags, what each takes from the text, what it asks of the state, and what it does.
-use Rattle.std.specs.Prelude.{ℕ, ◌+◌, ◌-◌, ◌*◌, Bool, true, false, List, [], ◌∷◌, length, codes, ◌==◌, bit_and, bit_or, bit_xor, nat_lt}
+use Rattle.std.specs.Prelude.{ℕ, ◌+◌, ◌-◌, ◌*◌, Bool, true, false, List, [], ◌∷◌, length, codes, ◌==◌, bit_and, bit_or, bit_xor, nat_lt, if◌then◌else◌}
 use Prim.Native.String.{String}
-use Rattle.definition.specs.Asked.{if◌then◌else◌}
 use Rattle.definition.specs.Machine.{Machine, here}
 use Rattle.numbers.specs.Cells.{wrap, negated, minus, magnitude, less, halved, flag, is_negative}
 use Rattle.numbers.specs.Division.{Divided}

@@ -1,10 +1,10 @@
 -- The words on data space, and those that type. A word may fetch or store only from 32,768 to below HERE.
-use Rattle.std.specs.Prelude.{ℕ, zero, suc, ◌+◌, ◌-◌, ◌%◌, max, Bool, ◌&&◌, ◌||◌, List, [], ◌∷◌, ◌++◌, length, take, drop, replicate, ◌==◌, nat_eq, nat_le}
+use Rattle.std.specs.Prelude.{ℕ, zero, suc, ◌+◌, ◌-◌, ◌%◌, max, Bool, ◌&&◌, ◌||◌, List, [], ◌∷◌, ◌++◌, length, take, drop, replicate, ◌==◌, nat_eq, nat_le, if◌then◌else◌}
 use Rattle.fault.specs.declared.Reason.TheVariants.{StackUnderflow, OutOfReach, BadBase, DataFull}
 use Rattle.image.specs.Cells.{at, cell, cell_at, zeros}
 use Rattle.entries.specs.Entries.{body_of}
 use Rattle.definition.specs.Machine.{Machine, with_high, here}
-use Rattle.definition.specs.Asked.{Asked, ask, ◌>>◌, if◌then◌else◌, After, quietly, typing}
+use Rattle.definition.specs.Asked.{Asked, ask, ◌>>◌, After, quietly, typing}
 use Rattle.numbers.specs.Cells.{wrap, is_negative, magnitude}
 use Rattle.numbers.specs.Text.{is_base, signed_text, unsigned_text}
 use Rattle.definition.specs.Kernel

@@ -1,8 +1,8 @@
 -- The stacks, and the words that touch data cells alone.
-use Rattle.std.specs.Prelude.{ℕ, ◌+◌, Bool, List, [], ◌∷◌, ◌++◌, length, take, drop, ◌==◌, nat_le, slice_index_or}
+use Rattle.std.specs.Prelude.{ℕ, ◌+◌, Bool, List, [], ◌∷◌, ◌++◌, length, take, drop, ◌==◌, nat_le, slice_index_or, if◌then◌else◌}
 use Rattle.fault.specs.declared.Reason.TheVariants.{StackUnderflow, StackOverflow, BadQuotient}
 use Rattle.definition.specs.Machine.{Machine, with_cells, with_returns, with_ip}
-use Rattle.definition.specs.Asked.{Asked, ask, ◌>>◌, if◌then◌else◌, After, quietly}
+use Rattle.definition.specs.Asked.{Asked, ask, ◌>>◌, After, quietly}
 use Rattle.numbers.specs.Division.{signed, product, floored}
 use Rattle.definition.specs.Kernel
 use Rattle.definition.specs.Kernel.{CellsWord}

@@ -1,5 +1,5 @@
 -- One step: the first of four rules that applies.
-use Rattle.std.specs.Prelude.{ℕ, Bool, true, false, not, ◌&&◌, List, [], ◌∷◌, Some, None, Option, ◌==◌}
+use Rattle.std.specs.Prelude.{ℕ, Bool, true, false, not, ◌&&◌, List, [], ◌∷◌, Some, None, Option, ◌==◌, if◌then◌else◌}
 use Rattle.fault.specs.declared.Reason.{Reason}
 use Rattle.fault.specs.declared.Reason.TheVariants.{BadName, BadToken}
 use Rattle.image.specs.Cells.{cell}
@@ -7,7 +7,7 @@ use Rattle.entries.specs.Entries.{token_of, is_immediate}
 use Rattle.dictionary.specs.Search.{searched}
 use Rattle.definition.specs.declared.registers.Position.{Position}
 use Rattle.definition.specs.Machine.{Machine, ip, blk, reading, dict_of}
-use Rattle.definition.specs.Asked.{Asked, refused, given, ask, ◌>>=◌, ◌>>◌, if◌then◌else◌, After, quietly}
+use Rattle.definition.specs.Asked.{Asked, refused, given, ask, ◌>>=◌, ◌>>◌, After, quietly}
 use Rattle.definition.specs.Text.{Taken, next_word, no_word_left, is_name, ask_found, ask_there}
 use Rattle.numbers.specs.Text.{number_in}
 use Rattle.definition.specs.Stacks.{replaced}
@@ -76,8 +76,8 @@ ended (l ∷ ls) m = outcome (quietly (reading l m.text.source.word ls m))
 abbrev pub from_text : Machine → Outcome
 from_text m =
     if needs_block m then outcome (bringing m)
-    else if no_word_left m then ended m.text.loads m
-    else outcome (interpreted (next_word m))
+    else (if no_word_left m then ended m.text.loads m
+    else outcome (interpreted (next_word m)))
 
 -- 4. IP is not 0: the token at IP is taken, 2 added to IP, and the token executed
 abbrev pub from_tokens : Machine → Asked After

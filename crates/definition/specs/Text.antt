@@ -1,9 +1,9 @@
 -- Words and strings taken from the text.
-use Rattle.std.specs.Prelude.{ℕ, suc, ◌+◌, min, Bool, true, false, ◌&&◌, List, [], ◌∷◌, length, take, drop, Some, None, Option, ◌==◌, nat_le, nat_lt}
+use Rattle.std.specs.Prelude.{ℕ, suc, ◌+◌, min, Bool, true, false, ◌&&◌, List, [], ◌∷◌, length, take, drop, Some, None, Option, ◌==◌, nat_le, nat_lt, if◌then◌else◌}
 use Rattle.fault.specs.declared.Reason.TheVariants.{NothingFollows, BadName, BrokenLink, NotFound}
 use Rattle.entries.specs.Search.{Found, missing, broken, hit}
 use Rattle.definition.specs.Machine.{Machine, blk, offset, reading_on}
-use Rattle.definition.specs.Asked.{Asked, refused, given, ask, ◌>>◌, if◌then◌else◌}
+use Rattle.definition.specs.Asked.{Asked, refused, given, ask, ◌>>◌}
 
 -- the block buffer, at 33,024
 abbrev pub buffer_of : Machine → List ℕ

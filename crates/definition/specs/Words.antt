@@ -1,5 +1,5 @@
 -- What each word does: it takes from the text, asks of the state, and then acts. Then tokens: code 1 to 105 is a kernel word, 201 to 205 the other kinds.
-use Rattle.std.specs.Prelude.{ℕ, zero, suc, ◌+◌, ◌-◌, Bool, true, not, ◌&&◌, ◌||◌, List, [], ◌∷◌, length, ◌==◌, nat_le, nat_lt, slice_index_or}
+use Rattle.std.specs.Prelude.{ℕ, zero, suc, ◌+◌, ◌-◌, Bool, true, not, ◌&&◌, ◌||◌, List, [], ◌∷◌, length, ◌==◌, nat_le, nat_lt, slice_index_or, if◌then◌else◌}
 use Rattle.fault.specs.declared.Reason.TheVariants.{BrokenLink, NoDefinition, DefinitionOpen, WordRunning, NoWordRunning, StackUnderflow, StackOverflow, ReturnOverflow, BadToken, Aborted}
 use Rattle.image.specs.Cells.{cell_at}
 use Rattle.entries.specs.Entries.{token_of}
@@ -8,7 +8,7 @@ use Rattle.entries.specs.Search.{search_in}
 use Rattle.dictionary.specs.Search.{searched}
 use Rattle.dictionary.specs.Trim.{can_forget, is_chain, on_chain}
 use Rattle.definition.specs.Machine.{Machine, ip, dict_of, changed}
-use Rattle.definition.specs.Asked.{Asked, refused, given, ask, ◌>>=◌, ◌>>◌, if◌then◌else◌, After, quietly}
+use Rattle.definition.specs.Asked.{Asked, refused, given, ask, ◌>>=◌, ◌>>◌, After, quietly}
 use Rattle.definition.specs.Text.{Taken, take_name, take_to, ask_found, ask_there}
 use Rattle.definition.specs.Kernel
 use Rattle.definition.specs.Kernel.{Row, Takes, Asks, Action}
@@ -141,11 +141,11 @@ does_word t m = do
 abbrev pub other_word : ℕ → ℕ → Machine → Asked After
 other_word code t m =
     if code == 201 then colon_word t m
-    else if code == 202 then created_word t m
-    else if code == 203 then constant_word t m
-    else if code == 204 then vocabulary_word t m
-    else if code == 205 then does_word t m
-    else refused BadToken m
+    else (if code == 202 then created_word t m
+    else (if code == 203 then constant_word t m
+    else (if code == 204 then vocabulary_word t m
+    else (if code == 205 then does_word t m
+    else refused BadToken m))))
 
 -- execute the token t; each EXECUTE takes a cell, so the nesting is at most the depth
 unfoldable pub execute_within : ℕ → ℕ → Machine → Asked After

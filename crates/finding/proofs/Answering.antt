@@ -1,5 +1,5 @@
 -- The ends of a search and of telling what a word is.
-use Rattle.std.proofs.Common.{◌≡◌, ℕ, ◌+◌, ◌≤◌, Bool, true, false, cond, List, length, Some, None, Ok, Err, Option, Result, sym, refl, ap, ◌∙◌, subst, arith}
+use Rattle.std.proofs.Common.{◌≡◌, ℕ, ◌+◌, ◌≤◌, Bool, true, false, cond, List, length, Some, None, Ok, Err, Option, Result, sym, refl, ap, ◌∙◌, subst, arith, if◌then◌else◌}
 use Rattle.fault.specs.declared.Fault.{Fault}
 use Rattle.fault.specs.declared.Place.{Place}
 use Rattle.fault.specs.declared.Reason.TheVariants.{BadName, BrokenLink, NotFound}
@@ -19,7 +19,7 @@ use Rattle.dictionary.specs.Search.{searched}
 use Rattle.definition.specs.declared.registers.Mark.{Mark}
 use Rattle.definition.specs.declared.ranged.Registers.{Registers}
 use Rattle.definition.specs.Machine.{Machine, told, dict_of}
-use Rattle.definition.specs.Asked.{Asked, refused, given, ask, ◌>>=◌, if◌then◌else◌, After}
+use Rattle.definition.specs.Asked.{Asked, refused, given, ask, ◌>>=◌, After}
 use Rattle.definition.specs.Text.{Taken, is_name, ask_found, ask_there}
 use Rattle.definition.specs.Space.{base}
 use Rattle.definition.specs.Step

@@ -1,6 +1,6 @@
 -- The number of each word in the kernel table, what lies in the dictionary, and when a loop ends.
-use Rattle.std.specs.Prelude.{ℕ, ◌+◌, Bool, ◌&&◌, nat_le, nat_lt}
-use Rattle.numbers.specs.Cells.{if◌then◌else◌, is_negative, magnitude}
+use Rattle.std.specs.Prelude.{ℕ, ◌+◌, Bool, ◌&&◌, nat_le, nat_lt, if◌then◌else◌}
+use Rattle.numbers.specs.Cells.{is_negative, magnitude}
 use Rattle.flow_words.specs.declared.words.ReturnsWord.{ReturnsWord}
 use Rattle.flow_words.specs.declared.words.InlineWord.{InlineWord}
 

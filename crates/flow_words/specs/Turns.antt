@@ -1,7 +1,6 @@
 -- One turn of a loop.
-use Rattle.std.specs.Prelude.{ℕ, ◌+◌, [], ◌∷◌}
+use Rattle.std.specs.Prelude.{ℕ, ◌+◌, [], ◌∷◌, if◌then◌else◌}
 use Rattle.definition.specs.Machine.{Machine}
-use Rattle.definition.specs.Asked.{if◌then◌else◌}
 use Rattle.definition.specs.Stacks.{nth_return, popped_returns, pushed_returns, go_to}
 use Rattle.definition.specs.Flow.{past}
 use Rattle.numbers.specs.Cells.{wrap, minus}

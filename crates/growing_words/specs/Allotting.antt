@@ -1,8 +1,7 @@
 -- Where ALLOT may take HERE.
-use Rattle.std.specs.Prelude.{ℕ, ◌+◌, ◌-◌, max, Bool, ◌&&◌, List, nat_le}
+use Rattle.std.specs.Prelude.{ℕ, ◌+◌, ◌-◌, max, Bool, ◌&&◌, List, nat_le, if◌then◌else◌}
 use Rattle.entries.specs.Entries.{body_of}
 use Rattle.numbers.specs.Cells.{is_negative, magnitude}
-use Rattle.definition.specs.Asked.{if◌then◌else◌}
 
 -- HERE moved by a signed count
 abbrev pub moved_by : ℕ → ℕ → ℕ

@@ -1,5 +1,5 @@
 -- The digits of a number: how many there are, and that they read back.
-use Rattle.std.proofs.Common.{◌≡◌, ℕ, zero, suc, ◌+◌, ◌-◌, ◌*◌, ◌/◌, ◌%◌, ◌^◌, ◌<◌, ◌≤◌, true, false, ltb, List, [], ◌∷◌, ◌++◌, length, get_or, drop, set, Some, None, sym, refl, ap, ◌∙◌, subst, ⊎_elim, append-nil, mod-lt, mod-eq_of_lt, pow-suc, div-add-mod', add-one, arith}
+use Rattle.std.proofs.Common.{◌≡◌, ℕ, zero, suc, ◌+◌, ◌-◌, ◌*◌, ◌/◌, ◌%◌, ◌^◌, ◌<◌, ◌≤◌, true, false, ltb, List, [], ◌∷◌, ◌++◌, length, get_or, drop, set, Some, None, sym, refl, ap, ◌∙◌, subst, ⊎_elim, append-nil, mod-lt, mod-eq_of_lt, pow-suc, div-add-mod', add-one, arith, if◌then◌else◌}
 use native.Mathlib.Nat.{div-lt_self}
 use borrow.Rule.Slice.PartMut.{post_of, put_mid}
 use lib.Seq.{drop-length}
@@ -7,8 +7,8 @@ use Rattle.std.proofs.lemmas.Nat.{div_below, le-div, mul-le}
 use Rattle.std.proofs.ByRecursion.{All-weaker}
 use Rattle.std.proofs.lemmas.List.{at_drop_all, drop-set}
 use Rattle.std.proofs.lemmas.Bool.Decides.{nat_tests, leb_tells}
-use Rattle.std.specs.List.{AllByRecursion as All}
-use Rattle.numbers.specs.Cells.{if◌then◌else◌, is_negative, magnitude, signed_value}
+use Rattle.std.specs.List.{AllByRecursion}
+use Rattle.numbers.specs.Cells.{is_negative, magnitude, signed_value}
 use Rattle.numbers.specs.Text.{AreDigits, Numeral, Prints, digit_byte, digit_of, digits_of, number_in, signed_text, unsigned_text, value_of, worth}
 use Rattle.numbers.proofs.Reading.{minus_number, plain_number, values}
 
@@ -138,12 +138,12 @@ module _ (base : ℕ) (low : 2 ≤ base) (high : base ≤ 36) where
       (leb_tells (suc n) base)
 
   -- each is a digit of the base, in capitals
-  proper : (k n : ℕ) (ds : List ℕ) → All (Proper base) ds → All (Proper base) (digits_of k base n ds)
+  proper : (k n : ℕ) (ds : List ℕ) → AllByRecursion (Proper base) ds → AllByRecursion (Proper base) (digits_of k base n ds)
   proper zero n ds h = h
   proper (suc k) n ds h =
       let last = mod-lt n {m = base} (omega arith) in
       let e = digit_back (n % base) (omega arith) in
-      let both : All (Proper base) (digit_byte (n % base) ∷ ds) = ((omega (arith, e), ap digit_byte e), h) in
+      let both : AllByRecursion (Proper base) (digit_byte (n % base) ∷ ds) = ((omega (arith, e), ap digit_byte e), h) in
       ⊎_elim (λ y. rw y.0 both) (λ y. rw y.0 (proper k (n / base) (digit_byte (n % base) ∷ ds) both)) (leb_tells (suc n) base)
 
   -- the first is not 0

@@ -5,7 +5,7 @@ use Rattle.std.proofs.lemmas.Nat.{mul-le}
 use Rattle.std.proofs.lemmas.List.{at_drop_more, at_drop_all}
 use Rattle.std.proofs.lemmas.Bool.Decides.{nat_tests, leb_tells, eqb_tells}
 use Rattle.std.proofs.lemmas.Int.{ints}
-use Rattle.std.specs.List.{AllByRecursion as All}
+use Rattle.std.specs.List.{AllByRecursion}
 use Rattle.numbers.specs.Cells.{negated}
 use Rattle.numbers.specs.Text.{digit_of, value_of, magnitude_of, up_to, is_base, number_in, worth, AreDigits, Writes, cell_holding, Reads}
 
@@ -96,7 +96,7 @@ base_tells base =
 
 -- digits are worth what reading them one by one gives; of other bytes it gives nothing
 abbrev pub Digits : ℕ → List ℕ → Type 0
-Digits base bs = All (λ b. digit_of b < base) bs
+Digits base bs = AllByRecursion (λ b. digit_of b < base) bs
 
 pub values : (base n : ℕ) (bs : List ℕ) → (Digits base bs × (value_of base n bs ≡ Some (n * base ^ length bs + worth base bs))) ⊎ ((Digits base bs → ⊥) × (value_of base n bs ≡ None))
 values base n [] = inl (tt, ap Some (rw pow-zero (omega arith)))

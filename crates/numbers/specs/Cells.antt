@@ -1,10 +1,5 @@
 -- Cells: numbers of 16 bits, read as they stand or as signed numbers.
-use Rattle.std.specs.Prelude.{ℕ, ◌+◌, ◌-◌, ◌/◌, ◌%◌, Bool, true, false, ℤ, pos, negsuc, nat_le, nat_lt}
-
-infixr 2 if◌then◌else◌
-abbrev pub if◌then◌else◌ : {A : Type 0} → Bool → A → A → A
-if true then x else y = x
-if false then x else y = y
+use Rattle.std.specs.Prelude.{ℕ, ◌+◌, ◌-◌, ◌/◌, ◌%◌, Bool, true, false, ℤ, pos, negsuc, nat_le, nat_lt, if◌then◌else◌}
 
 -- a number as a cell keeps it
 abbrev pub wrap : ℕ → ℕ

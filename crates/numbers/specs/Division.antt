@@ -1,7 +1,7 @@
 -- Floored division, which answers remainder and quotient together.
-use Rattle.std.specs.Prelude.{◌≡◌, ℕ, ◌+◌, ◌-◌, ◌*◌, ◌/◌, ◌%◌, Bool, true, false, not, ◌⊎◌, ℤ, pos, negsuc, ◌+ℤ◌, ◌*ℤ◌, ◌≤ℤ◌, ◌<ℤ◌, Some, None, Option, MatchOption, ◌==◌, nat_le}
+use Rattle.std.specs.Prelude.{◌≡◌, ℕ, ◌+◌, ◌-◌, ◌*◌, ◌/◌, ◌%◌, Bool, true, false, not, ◌⊎◌, ℤ, pos, negsuc, ◌+ℤ◌, ◌*ℤ◌, ◌≤ℤ◌, ◌<ℤ◌, Some, None, Option, MatchOption, ◌==◌, nat_le, if◌then◌else◌}
 use Rattle.std.specs.Bool.{beq}
-use Rattle.numbers.specs.Cells.{if◌then◌else◌, wrap, is_negative, negated, magnitude, signed_value}
+use Rattle.numbers.specs.Cells.{wrap, is_negative, negated, magnitude, signed_value}
 
 -- q and r are the floored quotient and remainder of a by b: a is q·b + r, and r lies between 0 and b, but is not b
 pub record IsFloored (a b q r : ℤ) : Type 0 where
@@ -62,8 +62,8 @@ two_sides below m n =
 -- nothing by 0; else by the sides on which the two lie
 abbrev pub floored : Signed → Signed → Divided
 floored a b =
-    if b.size == 0 then record { remainder = 0; quotient = 0; fits = false } else if beq a.is_below b.is_below
-    then same_side b.is_below a.size b.size else two_sides b.is_below a.size b.size
+    if b.size == 0 then record { remainder = 0; quotient = 0; fits = false }
+    else (if beq a.is_below b.is_below then same_side b.is_below a.size b.size else two_sides b.is_below a.size b.size)
 
 -- what a division answers: the pair, where it fits
 abbrev pub answered : Divided → Option (ℕ × ℕ)

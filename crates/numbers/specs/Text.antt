@@ -1,7 +1,7 @@
 -- Numbers as text: in a base from 2 to 36, by the digits 0 to 9, then A to Z.
-use Rattle.std.specs.Prelude.{◌≡◌, ℕ, zero, suc, ◌+◌, ◌-◌, ◌*◌, ◌/◌, ◌%◌, ◌^◌, ◌<◌, ◌≤◌, Bool, ◌&&◌, ◌⊎◌, List, [], ◌∷◌, length, ℤ, pos, negsuc, neg_ℤ, ◌≤ℤ◌, Some, None, Option, MatchOption, ◌==◌, nat_le, nat_lt, slice_index}
-use Rattle.std.specs.List.{AllByRecursion as All}
-use Rattle.numbers.specs.Cells.{if◌then◌else◌, is_negative, negated, magnitude}
+use Rattle.std.specs.Prelude.{◌≡◌, ℕ, zero, suc, ◌+◌, ◌-◌, ◌*◌, ◌/◌, ◌%◌, ◌^◌, ◌<◌, ◌≤◌, Bool, ◌&&◌, ◌⊎◌, List, [], ◌∷◌, length, ℤ, pos, negsuc, neg_ℤ, ◌≤ℤ◌, Some, None, Option, MatchOption, ◌==◌, nat_le, nat_lt, slice_index, if◌then◌else◌}
+use Rattle.std.specs.List.{AllByRecursion}
+use Rattle.numbers.specs.Cells.{is_negative, negated, magnitude}
 
 -- only in these bases there are digits
 abbrev pub is_base : ℕ → Bool
@@ -18,7 +18,8 @@ digit_byte d = if nat_lt d 10 then 48 + d else 55 + d
 -- a digit's value; 36 where the byte is none
 abbrev pub digit_of : ℕ → ℕ
 digit_of b =
-    if nat_le 48 b && nat_le b 57 then b - 48 else if nat_le 65 (capital b) && nat_le (capital b) 90 then capital b - 55 else 36
+    if nat_le 48 b && nat_le b 57 then b - 48
+    else (if nat_le 65 (capital b) && nat_le (capital b) 90 then capital b - 55 else 36)
 
 -- what digits are worth: the sum of their values times powers of the base
 abbrev pub worth : ℕ → List ℕ → ℕ
@@ -27,7 +28,7 @@ worth base (b ∷ bs) = digit_of b * base ^ length bs + worth base bs
 
 -- one or more digits of a base from 2 to 36
 abbrev pub AreDigits : ℕ → List ℕ → Type 0
-AreDigits base bs = (2 ≤ base) × (base ≤ 36) × (0 < length bs) × All (λ b. digit_of b < base) bs
+AreDigits base bs = (2 ≤ base) × (base ≤ 36) × (0 < length bs) × AllByRecursion (λ b. digit_of b < base) bs
 
 -- the text writes the number z: digits, or a minus and digits behind it
 abbrev pub Writes : ℕ → List ℕ → ℤ → Type 0
@@ -38,7 +39,7 @@ Writes base text z =
 -- the one way to print a number: capital digits, and no leading 0 but in 0 itself
 abbrev pub Numeral : ℕ → List ℕ → ℕ → Type 0
 Numeral base digits n =
-    AreDigits base digits × (worth base digits ≡ n) × All (λ b. digit_byte (digit_of b) ≡ b) digits
+    AreDigits base digits × (worth base digits ≡ n) × AllByRecursion (λ b. digit_byte (digit_of b) ≡ b) digits
     × (slice_index digits 0 ≡ 48 → length digits ≡ 1)
 
 -- the text prints the number: its digits, behind a minus where it is below 0

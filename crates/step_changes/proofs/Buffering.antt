@@ -1,6 +1,6 @@
 -- The words on blocks.
 use Rattle.std.proofs.Common.{◌≡◌, ℕ, ◌<◌, ◌≤◌, Bool, true, false, not, ◌&&◌, eqb, ltb, ◌⊎◌, List, [], ◌∷◌, length, get_or, drop, set, Some, None, Option, sym, refl, ap, ◌∙◌, subst, inl, inr, arith}
-use Rattle.std.specs.List.{AllByRecursion as All}
+use Rattle.std.specs.List.{AllByRecursion}
 use Rattle.std.proofs.lemmas.List.{length-drop, length-take, length-set, get_or-set_same, get_or-set_other, set_past}
 use Rattle.std.proofs.ByRecursion.{All-drop}
 use Rattle.std.proofs.lemmas.Bool.{ltb-true, cases_eq, cases_lt}
@@ -44,7 +44,7 @@ with_store_lem m s h u s' k = record {
 }
 
 -- text goes on elsewhere
-pub with_reading : (m : Machine) → Steady m → (p : Position) (w : LastWord) (ls : List Position) → BlockInCell p → All BlockInCell ls → Steady (reading p w ls m)
+pub with_reading : (m : Machine) → Steady m → (p : Position) (w : LastWord) (ls : List Position) → BlockInCell p → AllByRecursion BlockInCell ls → Steady (reading p w ls m)
 with_reading m s p w ls h k = with_text_lem m s _ (record { line = s.text.line; reads = h; loads = k })
 
 -- a store with a block replaced

@@ -1,6 +1,6 @@
 -- A word that changes the dictionary leads on by allowed changes.
 use Rattle.std.proofs.Common.{◌≡◌, ℕ, ◌+◌, ◌<◌, ◌≤◌, Bool, true, ◌≢◌, List, [], ◌∷◌, ◌++◌, length, sym, refl, ap, ◌∙◌, subst, arith}
-use Rattle.std.specs.List.{AllByRecursion as All}
+use Rattle.std.specs.List.{AllByRecursion}
 use Rattle.std.proofs.ByRecursion.{All-weaker}
 use Rattle.std.proofs.lemmas.List.{length-append, get_or_append_left}
 use Rattle.std.proofs.lemmas.Bool.{leb-true}
@@ -33,7 +33,7 @@ quietly_then p stays = p
 quietly_then p (and_then c q a k) = and_then c (quietly_then p q) a k
 
 -- with no entry open there is no mark
-pub no_marks : (D : Dict) (P : Mark → Type 0) (ms : List Mark) → D.opened ≡ 0 → All (InOpen D) ms → All P ms
+pub no_marks : (D : Dict) (P : Mark → Type 0) (ms : List Mark) → D.opened ≡ 0 → AllByRecursion (InOpen D) ms → AllByRecursion P ms
 no_marks D P [] z a = tt
 no_marks D P (k ∷ ms) z a = absurd (a.0.is_open z)
 
@@ -43,11 +43,11 @@ same_changed m f e =
     let E = f (dict_of m) in
     λ i. record { low = E.low; here = e i; newest = E.newest; voc_link = E.voc_link; context = E.context; current = E.current; opened = E.opened }
 
-pub with_change : (m : Machine) → Steady m → (f : Dict → Dict) (marks : List Mark) → (f (dict_of m)).here ≡ here m → Run boot_dict (f (dict_of m)) → (m.flow.compiling ≡ true → (f (dict_of m)).opened ≢ 0) → All (InOpen (f (dict_of m))) marks → Steady (with_marks marks (changed f m))
+pub with_change : (m : Machine) → Steady m → (f : Dict → Dict) (marks : List Mark) → (f (dict_of m)).here ≡ here m → Run boot_dict (f (dict_of m)) → (m.flow.compiling ≡ true → (f (dict_of m)).opened ≢ 0) → AllByRecursion (InOpen (f (dict_of m))) marks → Steady (with_marks marks (changed f m))
 with_change m s f marks e r c k = record {
   came = subst (Run boot_dict) (same_changed m f e) r;
   compiles = c;
-  marks = subst (λ D. All (InOpen D) marks) (same_changed m f e) k;
+  marks = subst (λ D. AllByRecursion (InOpen D) marks) (same_changed m f e) k;
   stacks = record { cells = s.stacks.cells; depth = s.stacks.depth; returns = s.stacks.returns };
   text = s.text;
   space = s.space;
@@ -55,7 +55,7 @@ with_change m s f marks e r c k = record {
   store = s.store;
 }
 
-pub change_leads : (m : Machine) → Steady m → (f : Dict → Dict) (marks : List Mark) → (f (dict_of m)).here ≡ here m → Quietly (dict_of m) (f (dict_of m)) → (m.flow.compiling ≡ true → (f (dict_of m)).opened ≢ 0) → All (InOpen (f (dict_of m))) marks → Quietly (dict_of m) (dict_of (with_marks marks (changed f m))) × Steady (with_marks marks (changed f m))
+pub change_leads : (m : Machine) → Steady m → (f : Dict → Dict) (marks : List Mark) → (f (dict_of m)).here ≡ here m → Quietly (dict_of m) (f (dict_of m)) → (m.flow.compiling ≡ true → (f (dict_of m)).opened ≢ 0) → AllByRecursion (InOpen (f (dict_of m))) marks → Quietly (dict_of m) (dict_of (with_marks marks (changed f m))) × Steady (with_marks marks (changed f m))
 change_leads m s f marks e q c k = (subst (Quietly (dict_of m)) (same_changed m f e) q, with_change m s f marks e (run_quietly s.came q) c k)
 
 -- the compiling flag
@@ -123,7 +123,7 @@ pub appended_quietly : (D : Dict) → Run boot_dict D → D.opened ≢ 0 → (bs
 unfolding changed_by
 appended_quietly D r o bs b h = and_then (append bs) stays (record { is_open = o; room = h; whole = b }) tt
 
-pub resolved_quietly : (known-cells : List ℕ) (D : Dict) → Run boot_dict D → D.opened ≢ 0 → All (Patchable D) known-cells → Quietly D (resolved known-cells D) × Grown D (resolved known-cells D)
+pub resolved_quietly : (known-cells : List ℕ) (D : Dict) → Run boot_dict D → D.opened ≢ 0 → AllByRecursion (Patchable D) known-cells → Quietly D (resolved known-cells D) × Grown D (resolved known-cells D)
 unfolding changed_by
 resolved_quietly [] D r o p = (stays, record { here = refl; opened = refl; first = refl; longer = omega arith })
 resolved_quietly (a ∷ rest) D r o p =

@@ -1,6 +1,6 @@
 -- The words that append to the open definition, and those that read what follows them in one.
 use Rattle.std.proofs.Common.{◌≡◌, ℕ, zero, suc, ◌+◌, ◌<◌, ◌≤◌, true, eqb, leb, ◌≢◌, List, [], ◌∷◌, ◌++◌, length, get_or, drop, sym, refl, ◌∙◌, arith, lit<}
-use Rattle.std.specs.List.{AllByRecursion as All}
+use Rattle.std.specs.List.{AllByRecursion}
 use Rattle.std.proofs.ByRecursion.{All-weaker, All-append, All-drop}
 use Rattle.std.proofs.lemmas.List.{length-append}
 use Rattle.std.proofs.lemmas.Bool.{leb-true, and_parts, true≢false}
@@ -50,7 +50,7 @@ sizes Do Begin h = absurd (true≢false (sym h))
 sizes Do While h = refl
 sizes Do Do h = refl
 
-marks_inside : (D : Dict) (ks : List Kind) (ms : List Mark) → are_marks ks ms ≡ true → All (InOpen D) ms → (i : ℕ) → i < length ks → Inside D (get_or ks i If) (get_or ms i (mark If 0)).address
+marks_inside : (D : Dict) (ks : List Kind) (ms : List Mark) → are_marks ks ms ≡ true → AllByRecursion (InOpen D) ms → (i : ℕ) → i < length ks → Inside D (get_or ks i If) (get_or ms i (mark If 0)).address
 marks_inside D [] ms h a i l = absurd (omega arith)
 marks_inside D (k ∷ ks) [] h a i l = absurd (true≢false (sym h))
 marks_inside D (k ∷ ks) (x ∷ ms) h a zero l =
@@ -87,7 +87,7 @@ MarkInside D k = Inside D k.kind k.address
 
 module _ (m : Machine) (s : Steady m) (o : m.names.opened ≢ 0) where
   structured_leads : (kinds : List Kind) (bs cells : List ℕ) (new : List Mark) → Bytes bs
-      → (are_marks kinds m.stacks.marks ≡ true → All (Patchable (appended bs (dict_of m))) cells × All (MarkInside (appended bs (dict_of m))) new) → Leads (dict_of m) (structured kinds bs cells new m)
+      → (are_marks kinds m.stacks.marks ≡ true → AllByRecursion (Patchable (appended bs (dict_of m))) cells × AllByRecursion (MarkInside (appended bs (dict_of m))) new) → Leads (dict_of m) (structured kinds bs cells new m)
   structured_leads kinds bs cells new b p =
       let ms = m.stacks.marks in
       let D = dict_of m in

@@ -1,6 +1,6 @@
 -- The defining words, and FORGET.
 use Rattle.std.proofs.Common.{◌≡◌, ℕ, ◌+◌, ◌-◌, ◌*◌, ◌<◌, ◌≤◌, true, false, ◌&&◌, eqb, leb, ◌≢◌, List, [], ◌∷◌, ◌++◌, length, take, sym, refl, ◌∙◌, subst, inl, inr, arith, lit<}
-use Rattle.std.specs.List.{AllByRecursion as All}
+use Rattle.std.specs.List.{AllByRecursion}
 use Rattle.std.proofs.lemmas.List.{length-append, length-take, nil_from_length}
 use Rattle.std.proofs.lemmas.Bool.{leb-true, eqb-true, and_parts, cond_both, false≢true}
 use Rattle.image.specs.Cells.{at, cell, cell_at, zeros, Bytes}
@@ -183,7 +183,7 @@ module _ (m : Machine) (s : Steady m) where
       let n = with_compiling false m in
       let k = with_compiling_lem m s false (λ c. absurd (false≢true c)) in
       let q : Quietly (dict_of m) (f (dict_of m)) = and_then semicolon (appended_quietly (dict_of m) s.came o bs (bytes_cell (kernel_token 91) (lit< tt)) (omega (arith, length-cell (kernel_token 91)))) o tt in
-      change_leads n k f m.stacks.marks refl q (λ c. absurd (false≢true c)) (subst (All (InOpen (f (dict_of m)))) (sym e) tt)
+      change_leads n k f m.stacks.marks refl q (λ c. absurd (false≢true c)) (subst (AllByRecursion (InOpen (f (dict_of m)))) (sym e) tt)
 
   definitions_leads : m.names.opened ≡ 0 → Quietly (dict_of m) (dict_of (changed (with_current m.order.context) m)) × Steady (changed (with_current m.order.context) m)
   unfolding changed_by

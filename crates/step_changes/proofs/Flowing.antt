@@ -1,5 +1,5 @@
 -- The words that read what follows them in a definition, and the codes that are no kernel word's.
-use Rattle.std.proofs.Common.{◌≡◌, ℕ, ◌+◌, ◌-◌, Bool, true, ◌&&◌, ◌||◌, eqb, leb, ◌≢◌, ◌⊎◌, List, [], ◌∷◌, refl, subst, inl, inr, arith}
+use Rattle.std.proofs.Common.{◌≡◌, ℕ, ◌+◌, ◌-◌, Bool, true, ◌&&◌, ◌||◌, eqb, leb, ◌≢◌, ◌⊎◌, List, [], ◌∷◌, refl, subst, inl, inr, arith, if◌then◌else◌}
 use Rattle.std.proofs.ByRecursion.{All-weaker}
 use Rattle.std.proofs.lemmas.Bool.{leb-true, eqb-true, and_parts, or_cases, false≢true}
 use Rattle.image.specs.Cells.{at, cell, cell_at}
@@ -10,7 +10,7 @@ use Rattle.numbers.specs.Cells.{wrap}
 use Rattle.forgetting.specs.Changes.{does, seek, OnChain}
 use Rattle.forgetting.specs.Changes.{changed as changed_by}
 use Rattle.definition.specs.Machine.{Machine, dp, ip, with_ip, changed, dict_of}
-use Rattle.definition.specs.Asked.{if◌then◌else◌, quietly}
+use Rattle.definition.specs.Asked.{quietly}
 use Rattle.definition.specs.Kernel
 use Rattle.definition.specs.Kernel.{InlineWord}
 use Rattle.definition.specs.Stacks.{nth, nth_return, popped, pushed, popped_returns, pushed_returns, has_cells, has_room, has_returns, has_return_room, go_to}

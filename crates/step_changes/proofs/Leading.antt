@@ -1,6 +1,6 @@
 -- A question that is answered leads on; what a word leaves is steady, part by part.
-use Rattle.std.proofs.Common.{◌≡◌, ℕ, ◌+◌, ◌<◌, ◌≤◌, Bool, true, false, List, ◌∷◌, ◌++◌, length, drop, sym, refl, ap, subst, arith}
-use Rattle.std.specs.List.{AllByRecursion as All}
+use Rattle.std.proofs.Common.{◌≡◌, ℕ, ◌+◌, ◌<◌, ◌≤◌, Bool, true, false, List, ◌∷◌, ◌++◌, length, drop, sym, refl, ap, subst, arith, if◌then◌else◌}
+use Rattle.std.specs.List.{AllByRecursion}
 use Rattle.std.proofs.lemmas.List.{length-append, length-drop}
 use Rattle.std.proofs.ByRecursion.{All-append, All-drop}
 use Rattle.std.proofs.lemmas.Bool.{leb-true}
@@ -10,7 +10,7 @@ use Rattle.dictionary.specs.Dict.{Dict}
 use Rattle.kernel.specs.Boot.{boot_dict}
 use Rattle.forgetting.specs.Law.{Run}
 use Rattle.definition.specs.Machine.{Machine, Stacks, Text, with_cells, with_returns, with_ip, with_text, with_high, with_stacks, dict_of}
-use Rattle.definition.specs.Asked.{Asked, refused, given, ask, ◌>>=◌, ◌>>◌, if◌then◌else◌, After}
+use Rattle.definition.specs.Asked.{Asked, refused, given, ask, ◌>>=◌, ◌>>◌, After}
 use Rattle.definition.specs.Stacks.{nth, nth_return, popped, pushed, popped_returns, pushed_returns, has_room, replaced}
 use Rattle.step_changes.specs.Steady.{Cells, InOpen, StacksHold, TextHolds, Steady}
 use Rattle.step_changes.specs.Laws.{Turns, Quietly, stays}
@@ -59,7 +59,7 @@ module _ (m : Machine) (s : Steady m) where
   with_stacks_lem k h e = record {
     came = s.came;
     compiles = s.compiles;
-    marks = subst (All (InOpen (dict_of m))) (sym e) s.marks;
+    marks = subst (AllByRecursion (InOpen (dict_of m))) (sym e) s.marks;
     stacks = h;
     text = s.text;
     space = s.space;
@@ -130,7 +130,7 @@ pub with_high_lem : (m : Machine) → Steady m → (xs : List ℕ) → Bytes xs 
 with_high_lem m s xs h e = record {
   came = subst (Run boot_dict) (same_dict m xs e) s.came;
   compiles = s.compiles;
-  marks = subst (λ D. All (InOpen D) m.stacks.marks) (same_dict m xs e) s.marks;
+  marks = subst (λ D. AllByRecursion (InOpen D) m.stacks.marks) (same_dict m xs e) s.marks;
   stacks = s.stacks;
   text = s.text;
   space = record { bytes = h; long = omega (arith, s.space.long); short = omega (arith, s.space.short) };

@@ -1,5 +1,5 @@
 -- The words that leave the dictionary alone, by their groups.
-use Rattle.std.proofs.Common.{◌≡◌, ℕ, ◌+◌, ◌%◌, ◌<◌, ◌≤◌, Bool, true, false, eqb, leb, List, [], ◌∷◌, ◌++◌, length, take, drop, arith}
+use Rattle.std.proofs.Common.{◌≡◌, ℕ, ◌+◌, ◌%◌, ◌<◌, ◌≤◌, Bool, true, false, eqb, leb, List, [], ◌∷◌, ◌++◌, length, take, drop, arith, if◌then◌else◌}
 use mathlib.Core.Bool.{beq}
 use Rattle.std.proofs.lemmas.List.{length-append, length-drop, length-take}
 use Rattle.std.proofs.ByRecursion.{All-append, All-drop, All-take}
@@ -10,7 +10,7 @@ use Rattle.numbers.specs.Cells as numbers
 use Rattle.numbers.specs.Cells.{is_negative}
 use Rattle.numbers.specs.Division.{Signed, Divided, signed, product, floored, same_side, two_sides, cell_of}
 use Rattle.definition.specs.Machine.{Machine, dp, ip, with_cells, with_returns, dict_of}
-use Rattle.definition.specs.Asked.{ask, ◌>>◌, if◌then◌else◌, quietly, typing}
+use Rattle.definition.specs.Asked.{ask, ◌>>◌, quietly, typing}
 use Rattle.definition.specs.Kernel
 use Rattle.definition.specs.Kernel.{CellsWord, TypingWord, ReturnsWord}
 use Rattle.definition.specs.Stacks.{nth, nth_return, popped, pushed, popped_returns, pushed_returns, has_cells, has_room, has_returns, has_return_room, go_to, roll, do_cells}
@@ -41,7 +41,7 @@ cell_of_lem false n = omega arith
 abbrev InCells : Divided → Type 0
 InCells d = (d.quotient < 65536) × (d.remainder < 65536)
 
-in_either : (b : Bool) (x y : Divided) → InCells x → InCells y → InCells (numbers.if◌then◌else◌ b x y)
+in_either : (b : Bool) (x y : Divided) → InCells x → InCells y → InCells (if◌then◌else◌ b x y)
 in_either true x y p q = p
 in_either false x y p q = q
 

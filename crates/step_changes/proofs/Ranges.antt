@@ -1,13 +1,13 @@
 -- Lists of bytes and of cells.
 use Rattle.std.proofs.Common.{◌≡◌, ℕ, zero, suc, ◌+◌, ◌/◌, ◌%◌, ◌<◌, ◌≤◌, ◌⊎◌, List, [], ◌∷◌, length, get_or, take, drop, set, replicate, refl, inl, inr, arith}
-use Rattle.std.specs.List.{AllByRecursion as All}
+use Rattle.std.specs.List.{AllByRecursion}
 use Rattle.std.proofs.lemmas.List.{get_or-drop, length-take, length-drop, length-append}
 use Rattle.image.specs.Cells.{cell, cell_at, Bytes}
 use Rattle.image.specs.Writes.{overwritten}
 use Rattle.forgetting.proofs.Trims.{append-bytes}
 
 -- what holds of every element and of the default holds of what is read
-pub all_or : {X : Type 0} (P : X → Type 0) (xs : List X) (k : ℕ) (d : X) → P d → All P xs → P (get_or xs k d)
+pub all_or : {X : Type 0} (P : X → Type 0) (xs : List X) (k : ℕ) (d : X) → P d → AllByRecursion P xs → P (get_or xs k d)
 all_or P [] k d p a = p
 all_or P (x ∷ xs) zero d p a = a.0
 all_or P (x ∷ xs) (suc k) d p a = all_or P xs k d p a.1

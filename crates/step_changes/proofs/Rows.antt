@@ -1,6 +1,6 @@
 -- Each row of the kernel table asks and takes what its action needs.
-use Rattle.std.proofs.Common.{◌≡◌, ℕ, ◌+◌, ◌-◌, ◌/◌, ◌<◌, Bool, true, false, not, eqb, ◌≢◌, List, [], ◌∷◌, ◌++◌, refl, arith, lit<}
-use Rattle.std.specs.List.{AllByRecursion as All}
+use Rattle.std.proofs.Common.{◌≡◌, ℕ, ◌+◌, ◌-◌, ◌/◌, ◌<◌, Bool, true, false, not, eqb, ◌≢◌, List, [], ◌∷◌, ◌++◌, refl, arith, lit<, if◌then◌else◌}
+use Rattle.std.specs.List.{AllByRecursion}
 use Rattle.std.proofs.ByRecursion.{All-append}
 use Rattle.std.proofs.lemmas.Bool.{leb-true, eqb-true, eqb-false}
 use Rattle.std.proofs.lemmas.Nat.{and_le_l, or_lt, xor_lt}
@@ -9,7 +9,7 @@ use Rattle.numbers.specs.Cells.{flag, magnitude, is_negative}
 use Rattle.entries.specs.Entries.{token_of}
 use Rattle.dictionary.specs.Dict.{Dict}
 use Rattle.definition.specs.Machine.{Machine, ip}
-use Rattle.definition.specs.Asked.{Asked, ask, ◌>>◌, if◌then◌else◌, After}
+use Rattle.definition.specs.Asked.{Asked, ask, ◌>>◌, After}
 use Rattle.fault.specs.declared.Reason.TheVariants.{NoDefinition, DefinitionOpen, WordRunning, NoWordRunning}
 use Rattle.definition.specs.Kernel
 use Rattle.definition.specs.Kernel.{Row, Asks, Action, stack_rows, space_rows, defining_rows, inside_rows}
@@ -64,14 +64,14 @@ either_cell : (b : Bool) (x y : ℕ) → x < 65536 → y < 65536 → (if b then 
 either_cell true x y p q = p
 either_cell false x y p q = q
 
-either_number : (b : Bool) (x y : ℕ) → x < 65536 → y < 65536 → numbers.if◌then◌else◌ b x y < 65536
+either_number : (b : Bool) (x y : ℕ) → x < 65536 → y < 65536 → if◌then◌else◌ b x y < 65536
 either_number true x y p q = p
 either_number false x y p q = q
 
 magnitude_cell : (a : ℕ) → a < 65536 → magnitude a < 65536
 magnitude_cell a h = go (is_negative a) refl
   where
-    go : (b : Bool) → is_negative a ≡ b → numbers.if◌then◌else◌ b (65536 - a) a < 65536
+    go : (b : Bool) → is_negative a ≡ b → if◌then◌else◌ b (65536 - a) a < 65536
     go true e = omega (arith, leb-true 32768 a e)
     go false e = h
 
@@ -79,7 +79,7 @@ either_cells : (b : Bool) (xs ys : List ℕ) → Cells xs → Cells ys → Cells
 either_cells true xs ys p q = p
 either_cells false xs ys p q = q
 
-stack_proper : All Proper stack_rows
+stack_proper : AllByRecursion Proper stack_rows
 stack_proper = (
   (λ a s f k. λ x h. (h, (h, tt))),
   (
@@ -178,7 +178,7 @@ stack_proper = (
   ),
 )
 
-space_proper : All Proper space_rows
+space_proper : AllByRecursion Proper space_rows
 space_proper = (
   (λ a s f k. tt),
   (
@@ -253,7 +253,7 @@ space_proper = (
   ),
 )
 
-defining_proper : All Proper defining_rows
+defining_proper : AllByRecursion Proper defining_rows
 defining_proper = (
   (λ a s f k. tt),
   (
@@ -349,7 +349,7 @@ defining_proper = (
   ),
 )
 
-inside_proper : All Proper inside_rows
+inside_proper : AllByRecursion Proper inside_rows
 inside_proper = (
   (λ a s f k. tt),
   (
@@ -394,7 +394,7 @@ inside_proper = (
   ),
 )
 
-pub kernel_proper : All Proper kernel
+pub kernel_proper : AllByRecursion Proper kernel
 kernel_proper =
     All-append Proper stack_rows (space_rows ++ (defining_rows ++ inside_rows)) stack_proper
     (All-append Proper space_rows (defining_rows ++ inside_rows) space_proper (All-append Proper defining_rows inside_rows defining_proper inside_proper))

@@ -1,5 +1,5 @@
 -- The words on data space.
-use Rattle.std.proofs.Common.{◌≡◌, ℕ, zero, suc, ◌+◌, ◌-◌, ◌%◌, ◌<◌, ◌≤◌, max, Bool, true, false, ◌&&◌, eqb, leb, ◌⊎◌, List, [], ◌∷◌, ◌++◌, length, take, replicate, refl, ◌∙◌, subst, inl, inr, arith}
+use Rattle.std.proofs.Common.{◌≡◌, ℕ, zero, suc, ◌+◌, ◌-◌, ◌%◌, ◌<◌, ◌≤◌, max, Bool, true, false, ◌&&◌, eqb, leb, ◌⊎◌, List, [], ◌∷◌, ◌++◌, length, take, replicate, refl, ◌∙◌, subst, inl, inr, arith, if◌then◌else◌}
 use Rattle.std.proofs.ByRecursion.{All-weaker}
 use Rattle.std.proofs.lemmas.List.{length-append, length-take, length-replicate}
 use Rattle.std.proofs.lemmas.Bool.{leb-true, eqb-true, and_parts, or_cases}
@@ -12,7 +12,6 @@ use Rattle.forgetting.specs.Changes.{changed as changed_by}
 use Rattle.forgetting.specs.Law as law
 use Rattle.forgetting.proofs.Trims.{append-bytes}
 use Rattle.definition.specs.Machine.{Machine, here, with_high, dict_of}
-use Rattle.definition.specs.Asked.{if◌then◌else◌}
 use Rattle.definition.specs.Kernel
 use Rattle.definition.specs.Kernel.{SpaceWord}
 use Rattle.definition.specs.Stacks.{nth, popped, has_cells}

@@ -1,6 +1,6 @@
 -- Tokens executed, and one step.
-use Rattle.std.proofs.Common.{◌≡◌, ℕ, zero, suc, ◌+◌, ◌-◌, ◌<◌, Bool, true, false, ◌&&◌, ◌||◌, eqb, leb, List, [], ◌∷◌, length, Some, None, Option, sym, refl, subst, inl, inr, arith, lit<}
-use Rattle.std.specs.List.{AllByRecursion as All}
+use Rattle.std.proofs.Common.{◌≡◌, ℕ, zero, suc, ◌+◌, ◌-◌, ◌<◌, Bool, true, false, ◌&&◌, ◌||◌, eqb, leb, List, [], ◌∷◌, length, Some, None, Option, sym, refl, subst, inl, inr, arith, lit<, if◌then◌else◌}
+use Rattle.std.specs.List.{AllByRecursion}
 use Rattle.std.proofs.lemmas.Bool.{false≢true}
 use Rattle.image.specs.Cells.{cell, cell_at, Bytes}
 use Rattle.entries.specs.Entries.{token_of, is_immediate}
@@ -15,7 +15,7 @@ use Rattle.forgetting.specs.Law.{Run}
 use Rattle.forgetting.proofs.Trims.{append-bytes}
 use Rattle.definition.specs.declared.registers.Position.{Position}
 use Rattle.definition.specs.Machine.{Machine, ip, dict_of}
-use Rattle.definition.specs.Asked.{Asked, refused, given, ◌>>=◌, ◌>>◌, if◌then◌else◌, After}
+use Rattle.definition.specs.Asked.{Asked, refused, given, ◌>>=◌, ◌>>◌, After}
 use Rattle.definition.specs.Text.{Taken, next_word, no_word_left, is_name, ask_found, ask_there}
 use Rattle.definition.specs.Kernel
 use Rattle.definition.specs.Kernel.{Row, Action}
@@ -144,7 +144,7 @@ going_if : (m : Machine) (b : Bool) (x y : Outcome) → (b ≡ true → Going m 
 going_if m true x y p q = p refl
 going_if m false x y p q = q refl
 
-ended_goes : (m : Machine) → Steady m → (ls : List Position) → All BlockInCell ls → Going m (Step.ended ls m)
+ended_goes : (m : Machine) → Steady m → (ls : List Position) → AllByRecursion BlockInCell ls → Going m (Step.ended ls m)
 ended_goes m s [] h = refl
 ended_goes m s (l ∷ ls) h = (stays, with_reading m s l m.text.source.word ls h.0 h.1)
 

@@ -1,5 +1,5 @@
 -- What words take from the text, and what a search finds.
-use Rattle.std.proofs.Common.{◌≡◌, ℕ, zero, suc, ◌+◌, ◌%◌, ◌<◌, ◌≤◌, Bool, true, false, eqb, ltb, leb, List, [], ◌∷◌, length, take, drop, Some, None, Option, refl, subst, arith}
+use Rattle.std.proofs.Common.{◌≡◌, ℕ, zero, suc, ◌+◌, ◌%◌, ◌<◌, ◌≤◌, Bool, true, false, eqb, ltb, leb, List, [], ◌∷◌, length, take, drop, Some, None, Option, refl, subst, arith, if◌then◌else◌}
 use Rattle.std.proofs.lemmas.List.{length-take}
 use Rattle.std.proofs.lemmas.Bool.{leb-true}
 use Rattle.fault.specs.declared.Reason.TheVariants.{NothingFollows, BadName, BrokenLink}
@@ -16,7 +16,7 @@ use Rattle.numbers.specs.Text.{number_in, magnitude_of}
 use Rattle.numbers.specs.Text as writing
 use Rattle.definition.specs.declared.registers.LastWord.{LastWord}
 use Rattle.definition.specs.Machine.{Machine, blk, offset, reading_on, dict_of}
-use Rattle.definition.specs.Asked.{Asked, given, ask, ◌>>=◌, ◌>>◌, if◌then◌else◌}
+use Rattle.definition.specs.Asked.{Asked, given, ask, ◌>>=◌, ◌>>◌}
 use Rattle.definition.specs.Text.{Taken, buffer_of, text_of, next_word, is_name, take_name, take_to, ask_found, ask_there}
 use Rattle.definition.specs.Kernel
 use Rattle.definition.specs.Kernel.{Takes}
@@ -131,7 +131,7 @@ up_to_cell : (limit : ℕ) (f : ℕ → ℕ) → ((n : ℕ) → n ≤ limit → 
 up_to_cell limit f h None = tt
 up_to_cell limit f h (Some n) = go (leb n limit) refl
   where
-    go : (b : Bool) → leb n limit ≡ b → CellOr (numbers.if◌then◌else◌ b (Some (f n)) None)
+    go : (b : Bool) → leb n limit ≡ b → CellOr (if◌then◌else◌ b (Some (f n)) None)
     go true e = h n (leb-true n limit e)
     go false e = tt
 
@@ -139,7 +139,7 @@ pub number_cell : (base : ℕ) (bs : List ℕ) → CellOr (number_in base bs)
 number_cell base [] = tt
 number_cell base (b ∷ bs) = go (eqb b 45)
   where
-    go : (q : Bool) → CellOr (numbers.if◌then◌else◌ q (writing.up_to 32768 negated (magnitude_of base bs)) (writing.up_to 65535 (λ n. n) (magnitude_of base (b ∷ bs))))
+    go : (q : Bool) → CellOr (if◌then◌else◌ q (writing.up_to 32768 negated (magnitude_of base bs)) (writing.up_to 65535 (λ n. n) (magnitude_of base (b ∷ bs))))
     go true = up_to_cell 32768 negated (λ n h. omega arith) (magnitude_of base bs)
     go false = up_to_cell 65535 (λ n. n) (λ n h. omega arith) (magnitude_of base (b ∷ bs))
 

@@ -1,6 +1,6 @@
 -- What a step does to the dictionary, and the law of forgetting over every history from boot.
 use Rattle.std.specs.Prelude.{◌≡◌, ℕ, ◌≤◌, true, ◌≢◌, ◌⊎◌, List, length}
-use Rattle.std.specs.List.{AllByRecursion as All}
+use Rattle.std.specs.List.{AllByRecursion}
 use Rattle.fault.specs.declared.Reason.{Reason}
 use Rattle.image.specs.Cells.{Bytes}
 use Rattle.store.specs.Meaning.{Meaning}
@@ -147,4 +147,4 @@ abbrev pub CompilesOpen : Type 0
 CompilesOpen = FromBoot λ m. m.flow.compiling ≡ true → m.names.opened ≢ 0
 
 abbrev pub MarksInside : Type 0
-MarksInside = FromBoot λ m. All (InOpen (dict_of m)) m.stacks.marks
+MarksInside = FromBoot λ m. AllByRecursion (InOpen (dict_of m)) m.stacks.marks

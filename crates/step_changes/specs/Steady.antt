@@ -1,6 +1,6 @@
 -- What holds of a machine from boot at every moment.
 use Rattle.std.specs.Prelude.{◌≡◌, ℕ, ◌+◌, ◌<◌, ◌≤◌, true, ◌≢◌, List, length}
-use Rattle.std.specs.List.{AllByRecursion as All}
+use Rattle.std.specs.List.{AllByRecursion}
 use Rattle.image.specs.Cells.{Bytes}
 use Rattle.store.specs.Meaning.{Meaning, Sound, block}
 use Rattle.entries.specs.Entries.{first_at}
@@ -15,7 +15,7 @@ use Rattle.definition.specs.Machine.{Machine, Stacks, Text, ip, dict_of}
 
 -- every element is a cell
 abbrev pub Cells : List ℕ → Type 0
-Cells xs = All (λ x. x < 65536) xs
+Cells xs = AllByRecursion (λ x. x < 65536) xs
 
 -- IF, WHILE and DO leave the address of a cell, BEGIN that of the token behind it
 abbrev pub mark_size : Kind → ℕ
@@ -42,7 +42,7 @@ BlockInCell p = p.blk < 65536
 pub record TextHolds (t : Text) : Type 0 where
   pub line : Bytes t.line
   pub reads : BlockInCell t.source.position
-  pub loads : All BlockInCell t.loads
+  pub loads : AllByRecursion BlockInCell t.loads
 
 -- HERE from 34,048 to 65,535
 pub record SpaceHolds (high : List ℕ) : Type 0 where
@@ -59,7 +59,7 @@ pub record StoreHolds (s : Meaning) : Type 0 where
 pub record Steady (m : Machine) : Type 0 where
   pub came : Run boot_dict (dict_of m)
   pub compiles : m.flow.compiling ≡ true → m.names.opened ≢ 0
-  pub marks : All (InOpen (dict_of m)) m.stacks.marks
+  pub marks : AllByRecursion (InOpen (dict_of m)) m.stacks.marks
   pub stacks : StacksHold m.stacks
   pub text : TextHolds m.text
   pub space : SpaceHolds m.high

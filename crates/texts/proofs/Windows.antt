@@ -1,5 +1,5 @@
 -- The text of the machine in registers and image, and the next word of it.
-use Rattle.std.proofs.Common.{◌≡◌, ℕ, ◌+◌, ◌-◌, ◌≤◌, min, Bool, true, false, cond, eqb, List, length, take, drop, sym, refl, ap, ◌∙◌, arith}
+use Rattle.std.proofs.Common.{◌≡◌, ℕ, ◌+◌, ◌-◌, ◌≤◌, min, Bool, true, false, cond, eqb, List, length, take, drop, sym, refl, ap, ◌∙◌, arith, if◌then◌else◌}
 use Rattle.std.specs.List.{prefix_len}
 use Rattle.std.proofs.lemmas.List.Sums.{prefix_len-le-length}
 use Rattle.std.proofs.lemmas.Bool.Decides.{nat_tests}
@@ -11,7 +11,6 @@ use Rattle.definition.specs.declared.registers.LastWord.{LastWord}
 use Rattle.definition.specs.declared.registers.Seat.{Seat}
 use Rattle.definition.specs.declared.ranged.Registers.{Registers}
 use Rattle.definition.specs.Machine.{Machine, offset, reading_on}
-use Rattle.definition.specs.Asked.{if◌then◌else◌}
 use Rattle.definition.specs.Text.{Taken, separates, gap, word_length, text_of, next_word, no_word_left}
 use Rattle.definition.specs.View.{lent, view_of}
 use Rattle.steps.specs.Does.{seen}

@@ -1,6 +1,5 @@
 -- The number of each word in the kernel table, and what the words that type read.
-use Rattle.std.specs.Prelude.{ℕ, ◌+◌, Bool, ◌&&◌, nat_le}
-use Rattle.definition.specs.Asked.{if◌then◌else◌}
+use Rattle.std.specs.Prelude.{ℕ, ◌+◌, Bool, ◌&&◌, nat_le, if◌then◌else◌}
 use Rattle.numbers.specs.Cells.{is_negative}
 use Rattle.typing_words.specs.declared.words.TypingWord.{TypingWord}
 
