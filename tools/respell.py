@@ -88,6 +88,7 @@ def main():
             continue
         code = QUIET.sub(lambda m: " " * len(m[0]), read(path))
         names = set(DECLARED.findall(code))
+        names |= set(re.findall(r"(?m)^(?:pub )?(?:record|data) (\S+)", code))
         names |= {name for row in MEMBERS.findall(code) for name in row.split()}
         names |= {name for line in re.findall(r"(?m)^use .*$", code) for name in ALIAS.findall(line)}
         declared |= names

@@ -2,9 +2,9 @@
 use Rattle.stacks.specs.Stack.{stack_of}
 use Rattle.std.proofs.Common.{[], refl}
 use Rattle.definition.specs.Computes.{machine_computes}
-use Rattle.kernel_table.specs.Table.{Kernel-stands, RegistersBoot, boot_shared, boot_seat, entries_in, entries_of, found_in, places_from}
+use Rattle.kernel_table.specs.Table.{KernelStands, RegistersBoot, boot_shared, boot_seat, entries_in, entries_of, found_in, places_from}
 
-pub kernel_stands : Kernel-stands
+pub kernel_stands : KernelStands
 unfolding machine_computes entries_in entries_of found_in places_from
 kernel_stands = record { count = refl; entries = refl; threads = refl; end = refl; tokens = refl }
 

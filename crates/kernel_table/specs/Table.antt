@@ -61,7 +61,7 @@ abbrev compiled : List ℕ
 compiled = 91 ∷ 98 ∷ 99 ∷ 100 ∷ 101 ∷ 102 ∷ 103 ∷ 104 ∷ 105 ∷ []
 
 -- Each of the 105 words stands as its row says and is found in its thread, nothing lies behind the last, and at the token of a word appended stands its number
-pub record Kernel-stands : Type 0 where
+pub record KernelStands : Type 0 where
   pub count : length kernel ≡ 105
   pub entries : entries_in (drop 280 boot_dict.low) kernel ≡ entries_of 1 kernel
   pub threads : found_in boot_dict.low kernel ≡ places_from 280 kernel

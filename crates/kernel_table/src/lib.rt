@@ -3,7 +3,7 @@
 
 ghost use Rattle.std.specs.Prelude.{◌≡◌};
 ghost use Rattle.definition.specs.Boot.{fence};
-ghost use Rattle.kernel_table.specs.Table.{boot_seat, boot_shared, Kernel-stands, RegistersBoot};
+ghost use Rattle.kernel_table.specs.Table.{boot_seat, boot_shared, KernelStands, RegistersBoot};
 
 use definition::ranged::Registers;
 use definition::registers::{Buffer, LastWord, Seat, Shared};
@@ -19,7 +19,7 @@ fn first_free() -> u16
 // FENCE. Each kernel word stands below it as its row of the table says, and with these bytes `booted` is the machine that boot gives.
 pub fn fence_address() -> u16
     ensures value { result ≡ fence }
-    ensures table { Kernel-stands }
+    ensures table { KernelStands }
     ensures registers { RegistersBoot }
 {
     first_free()

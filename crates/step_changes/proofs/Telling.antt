@@ -11,7 +11,7 @@ use Rattle.definition.specs.Computes.{machine_computes}
 use Rattle.forgetting.proofs.Booting.{all_bytes_lem}
 use Rattle.step_changes.specs.Steady.{StoreHolds}
 use Rattle.step_changes.specs.Laws as laws
-use Rattle.step_changes.specs.Laws.{Story-told}
+use Rattle.step_changes.specs.Laws.{StoryTold}
 use Rattle.step_changes.proofs.Ranges.{bytes_none}
 
 -- a store without blocks
@@ -58,7 +58,7 @@ gone : done.news ≡ forgot 1620
 unfolding machine_computes
 gone = refl
 
-pub story_told : Story-told
+pub story_told : StoryTold
 story_told = record {
   word = 1620;
   before = before;

@@ -128,7 +128,7 @@ abbrev pub StepForgets : Type 0
 StepForgets = (e : ℕ) (before found : Machine) (begun done : After) → Story e before found begun done → Same (dict_of done.machine) (dict_of before)
 
 -- and there are such stories
-pub record Story-told : Type 0 where
+pub record StoryTold : Type 0 where
   pub word : ℕ
   pub before : Machine
   pub found : Machine

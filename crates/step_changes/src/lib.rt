@@ -2,7 +2,7 @@
 #![tactic(auto)]
 
 ghost use Rattle.std.specs.Prelude.{◌≡◌, not, ◌==◌, nat_lt};
-ghost use Rattle.step_changes.specs.Laws.{StepChanges, StepForgets, Story-told, CallsInMoments, SteadyAlways, CompilesOpen, MarksInside};
+ghost use Rattle.step_changes.specs.Laws.{StepChanges, StepForgets, StoryTold, CallsInMoments, SteadyAlways, CompilesOpen, MarksInside};
 
 fn is_older(word: u16, than: u16) -> bool
     ensures { result ≡ nat_lt word than }
@@ -17,7 +17,7 @@ pub fn stands(forgotten: u16, word: u16) -> bool
     ensures changes { StepChanges }
     ensures calls { CallsInMoments }
     ensures forgets { StepForgets }
-    ensures told { Story-told }
+    ensures told { StoryTold }
 {
     is_older(word, forgotten)
 }
