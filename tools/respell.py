@@ -156,7 +156,7 @@ def main():
             out.append(turned(text[last : m.start()], made, table_here))
             it = m[0]
             if it.startswith(("--", "//")):
-                it = re.sub(r"`[^`\n]+`", lambda s: turned(s[0], False), it)
+                it = re.sub(r"`[^`\n]+`", lambda s: turned(s[0].strip("`"), False).join("``"), it)
             out.append(it)
             last = m.end()
         out.append(turned(text[last:], made, table_here))

@@ -4,7 +4,7 @@ use Rattle.image.specs.Cells.{cell_at, set_cell, cell, Bytes}
 pub use Rattle.entries.specs.Threads.{Walk, stop, next}
 use Rattle.forgetting.proofs.Raw.{link_of, youngest, first_at}
 
--- an entry by its parts; `isVoc` if four heads and a vocabulary link end it
+-- an entry by its parts; `is_voc` if four heads and a vocabulary link end it
 pub record Entry : Type 0 where
   pub voc : ℕ
   pub thread : ℕ
