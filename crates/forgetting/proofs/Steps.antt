@@ -587,8 +587,8 @@ no_does_base F D I x c a = elim a.code [ inl y ↦ omega (arith, low) | inr y �
     low : cell_at D.low (first_at D.low D.newest - 2) < 202
     low = rw (newest_is, low_is) c.good.kernel
 
-set-other-cell : (low : List ℕ) (i x a : ℕ) → a ≢ i → a + 1 ≢ i → cell_at (set low i x) a ≡ cell_at low a
-set-other-cell low i x a p q = cell_of_bytes (set low i x) low a (get_or-set_other low i a x 0 p) (get_or-set_other low i (a + 1) x 0 q)
+set_other_cell : (low : List ℕ) (i x a : ℕ) → a ≢ i → a + 1 ≢ i → cell_at (set low i x) a ≡ cell_at low a
+set_other_cell low i x a p q = cell_of_bytes (set low i x) low a (get_or-set_other low i a x 0 p) (get_or-set_other low i (a + 1) x 0 q)
 
 in_same : (low new : List ℕ) (v k : ℕ) → ((j : ℕ) → j < k → cell_at new (v + 2 * j) ≡ cell_at low (v + 2 * j)) → youngest_in v k new ≡ youngest_in v k low
 unfolding youngest_in
@@ -613,14 +613,14 @@ go_immediate_base F D I c = (
     fence_is = length-set I.low i k ∙ c.fence_is;
     good = record {
       vocs_are = g.vocs_are;
-      ends = set-other-cell I.low i k 278 (omega (arith, g.newest_from)) (omega (arith, g.newest_from)) ∙ g.ends;
+      ends = set_other_cell I.low i k 278 (omega (arith, g.newest_from)) (omega (arith, g.newest_from)) ∙ g.ends;
       long = rw (length-set I.low i k) g.long;
       room = rw (length-set I.low i k) g.room;
-      heads = λ j l. rw (length-set I.low i k, set-other-cell I.low i k (270 + 2 * j) (omega (arith, g.newest_from)) (omega (arith, g.newest_from))) (g.heads j l);
+      heads = λ j l. rw (length-set I.low i k, set_other_cell I.low i k (270 + 2 * j) (omega (arith, g.newest_from)) (omega (arith, g.newest_from))) (g.heads j l);
       whole = set_bytes_1 I.low i k (marked_byte (at I.low i) (g.whole i)) g.whole;
       newest_from = rw young g.newest_from;
       newest_to = rw (young, length-set I.low i k) g.newest_to;
-      kernel = rw (young, first_same, set-other-cell I.low i k (first_at I.low y - 2) (omega (arith, first_from)) (omega (arith, first_from))) g.kernel;
+      kernel = rw (young, first_same, set_other_cell I.low i k (first_at I.low y - 2) (omega (arith, first_from)) (omega (arith, first_from))) g.kernel;
     };
   },
   λ s b x n. absurd (no_base x.1),
@@ -642,7 +642,7 @@ go_immediate_base F D I c = (
     J = record { low = set I.low i k; vocs = I.vocs }
 
     young : youngest I.vocs (set I.low i k) ≡ y
-    young = forth_youngest I.low (set I.low i k) I.vocs g.vocs_are (λ j l. set-other-cell I.low i k (270 + 2 * j) (omega (arith, g.newest_from)) (omega (arith, g.newest_from)))
+    young = forth_youngest I.low (set I.low i k) I.vocs g.vocs_are (λ j l. set_other_cell I.low i k (270 + 2 * j) (omega (arith, g.newest_from)) (omega (arith, g.newest_from)))
 
     first_same : first_at (set I.low i k) y ≡ first_at I.low y
     first_same = unfold first_at in ap (λ z. y + 5 + z) (ap (λ z. z % 32) (get_or-set_same I.low i k 0 (omega (arith, g.newest_to))) ∙ marked_same (at I.low i))
