@@ -27,8 +27,9 @@ TOP = re.compile(r'(?m)^(?:abbrev |unfoldable |pub )+([^\s(){}.;,@"«»]+)(?: \{
 LIBRARY = set(
     "length take drop set reverse map replicate append get_or slice_index slice_index_or min max sum cond not put_mid".split()
 )
-# Two lemmas beside a definition of their own file, and a test that was spelled as a fact.
-BY_HAND = {"all-bytes": "all_bytes_lem", "moved_on": "moved_on_lem", "Tested": "is_tested"}
+# Two lemmas beside a definition of their own file, and a test that was spelled as a fact. Each row goes with a name that must
+# be declared in its old spelling, so that a second run does nothing.
+BY_HAND = {"all-bytes": ("all_bytes_lem", "all-bytes"), "moved_on": ("moved_on_lem", "movedOn"), "Tested": ("is_tested", "Tested")}
 # Fields of two records, which do not meet.
 OF_TWO_RECORDS = {"voc_link"}
 
@@ -61,7 +62,7 @@ def camel(name):
 
 def respelled(name, functions):
     if name in BY_HAND:
-        return BY_HAND[name]
+        return BY_HAND[name][0]
     if not re.match(r"[A-Za-z]", name):
         return name
     if name[0].isupper():
@@ -95,7 +96,8 @@ def main():
         if "/specs/" in path:
             defined |= names
             functions |= {words_of(n) for n in TOP.findall(code) if n[0].islower() and "-" not in n}
-    declared = {n for n in declared if n not in goals} | set(BY_HAND)
+    by_hand = {n for n, (_, old) in BY_HAND.items() if old in declared}
+    declared = {n for n in declared if n not in goals and n not in BY_HAND} | by_hand
     table = {n: respelled(n, functions) for n in declared}
     taken = {table[n] for n in defined & declared}
     table = {n: new + "_lem" if n not in defined and new in taken else new for n, new in table.items()}
