@@ -20,34 +20,34 @@ pub enum Layer {
 // The question that was answered by a no, in the order in which questions are put.
 #[derive(Clone, Copy, PartialEq, Eq, Debug)]
 pub enum Reason {
-    WrongLength,
-    LineTooLong,
-    BadLookupName,
-    NothingFollows,
-    BadName,
-    BrokenLink,
-    NotFound,
-    NoDefinition,
-    DefinitionOpen,
-    WordRunning,
-    NoWordRunning,
-    StackUnderflow,
-    StackOverflow,
-    ReturnUnderflow,
-    ReturnOverflow,
-    OutOfReach,
-    BadQuotient,
-    BadBase,
-    BadMark,
-    DictionaryFull,
-    DataFull,
-    BadToken,
-    BelowFence,
-    NotCreated,
-    BadLoad,
-    NoBlock,
-    NotWritable,
-    Aborted,
+    WrongLength = 1,
+    LineTooLong = 2,
+    BadLookupName = 3,
+    NothingFollows = 4,
+    BadName = 5,
+    BrokenLink = 6,
+    NotFound = 7,
+    NoDefinition = 8,
+    DefinitionOpen = 9,
+    WordRunning = 10,
+    NoWordRunning = 11,
+    StackUnderflow = 12,
+    StackOverflow = 13,
+    ReturnUnderflow = 14,
+    ReturnOverflow = 15,
+    OutOfReach = 16,
+    BadQuotient = 17,
+    BadBase = 18,
+    BadMark = 19,
+    DictionaryFull = 20,
+    DataFull = 21,
+    BadToken = 22,
+    BelowFence = 23,
+    NotCreated = 24,
+    BadLoad = 25,
+    NoBlock = 26,
+    NotWritable = 27,
+    Aborted = 28,
 }
 
 // Where the last word was taken: BLK, and the word's place and length in that text.
@@ -82,36 +82,7 @@ impl Reason {
     fn number(&self) -> u8
         ensures { result ≡ number_of self.now }
     {
-        match self {
-            Reason::WrongLength => 1,
-            Reason::LineTooLong => 2,
-            Reason::BadLookupName => 3,
-            Reason::NothingFollows => 4,
-            Reason::BadName => 5,
-            Reason::BrokenLink => 6,
-            Reason::NotFound => 7,
-            Reason::NoDefinition => 8,
-            Reason::DefinitionOpen => 9,
-            Reason::WordRunning => 10,
-            Reason::NoWordRunning => 11,
-            Reason::StackUnderflow => 12,
-            Reason::StackOverflow => 13,
-            Reason::ReturnUnderflow => 14,
-            Reason::ReturnOverflow => 15,
-            Reason::OutOfReach => 16,
-            Reason::BadQuotient => 17,
-            Reason::BadBase => 18,
-            Reason::BadMark => 19,
-            Reason::DictionaryFull => 20,
-            Reason::DataFull => 21,
-            Reason::BadToken => 22,
-            Reason::BelowFence => 23,
-            Reason::NotCreated => 24,
-            Reason::BadLoad => 25,
-            Reason::NoBlock => 26,
-            Reason::NotWritable => 27,
-            Reason::Aborted => 28,
-        }
+        *self as u8
     }
 
     fn layer(&self) -> Layer
@@ -126,10 +97,37 @@ impl Reason {
             _ => Layer::Word,
         }
     }
+}
 
-    // What is wrong, in plain words.
-    fn words(&self) -> &'static str {
-        match self {
+impl Fault {
+    pub fn new(reason: Reason, place: Place) -> Fault
+        ensures { result ≡ fault_of reason place }
+    {
+        Fault { reason, place }
+    }
+
+    pub fn number(&self) -> u8
+        ensures { result ≡ number_of self.now.reason }
+    {
+        self.reason.number()
+    }
+
+    pub fn layer(&self) -> Layer
+        ensures { result ≡ layer_of (number_of self.now.reason) }
+    {
+        self.reason.layer()
+    }
+}
+
+impl fmt::Display for Layer {
+    fn fmt<W: fmt::Write>(&self, f: &mut fmt::Formatter<W>) -> fmt::Result {
+        write!(f, "{self:?}")
+    }
+}
+
+impl fmt::Display for Reason {
+    fn fmt<W: fmt::Write>(&self, f: &mut fmt::Formatter<W>) -> fmt::Result {
+        f.write_str(match self {
             Reason::WrongLength => "the lent memory or the card has not the length it must have",
             Reason::LineTooLong => "the line has more than 128 bytes",
             Reason::BadLookupName => "the name looked up is not 1 to 31 printing characters",
@@ -158,63 +156,21 @@ impl Reason {
             Reason::NoBlock => "the card has no such block",
             Reason::NotWritable => "the card is not writable",
             Reason::Aborted => "ABORT",
-        }
-    }
-}
-
-impl Fault {
-    pub fn new(reason: Reason, place: Place) -> Fault
-        ensures { result ≡ fault_of reason place }
-    {
-        Fault { reason, place }
-    }
-
-    pub fn number(&self) -> u8
-        ensures { result ≡ number_of self.now.reason }
-    {
-        self.reason.number()
-    }
-
-    pub fn layer(&self) -> Layer
-        ensures { result ≡ layer_of (number_of self.now.reason) }
-    {
-        self.reason.layer()
-    }
-}
-
-impl Layer {
-    fn name(&self) -> &'static str {
-        match self {
-            Layer::Calls => "Calls",
-            Layer::Text => "Text",
-            Layer::State => "State",
-            Layer::Word => "Word",
-            Layer::Compiler => "Compiler",
-            Layer::Store => "Store",
-        }
-    }
-}
-
-impl fmt::Display for Layer {
-    fn fmt<W: fmt::Write>(&self, f: &mut fmt::Formatter<W>) -> fmt::Result {
-        f.write_str(self.name())
-    }
-}
-
-impl fmt::Display for Reason {
-    fn fmt<W: fmt::Write>(&self, f: &mut fmt::Formatter<W>) -> fmt::Result {
-        f.write_str(self.words())
+        })
     }
 }
 
 // As `fault 26 (Store): the card has no such block, at BLK 3, place 5, length 4`.
 impl fmt::Display for Fault {
     fn fmt<W: fmt::Write>(&self, f: &mut fmt::Formatter<W>) -> fmt::Result {
-        let number = self.number();
-        let layer = self.layer();
-        let reason = self.reason;
-        let place = self.place;
-        write!(f, "fault {number} ({layer}): {reason}, {place}")
+        write!(
+            f,
+            "fault {} ({}): {}, {}",
+            self.number(),
+            self.layer(),
+            self.reason,
+            self.place
+        )
     }
 }
 
@@ -225,9 +181,10 @@ impl fmt::Display for Place {
         if self.length == 0 {
             return f.write_str("before any word");
         }
-        let blk = self.blk;
-        let start = self.start;
-        let length = self.length;
-        write!(f, "at BLK {blk}, place {start}, length {length}")
+        write!(
+            f,
+            "at BLK {}, place {}, length {}",
+            self.blk, self.start, self.length
+        )
     }
 }
