@@ -80,12 +80,3 @@ stack_roll d k xs ys z h l e = at (take (k + 1) (drop (d - 1 - k) xs)) refl
         let u : take d xs ≡ take (d - 1 - k) xs ++ take (k + 1) (drop (d - 1 - k) xs) = ap (λ v. take v xs) j ∙ parts (d - 1 - k) (k + 1) xs in
         let u' : take d xs ≡ take (d - 1 - k) xs ++ p ∷ Q = u ∙ ap (λ (s : List _). take (d - 1 - k) xs ++ s) (sym q) in
         ap reverse (t ∙ ap (λ (s : List _). take (d - 1 - k) xs ++ s) w) ∙ roll_core (take (d - 1 - k) xs) p Q z k lq ∙ ap (λ s. rolled k (reverse s) z) (sym u')
-
--- the same, at a place that a function gave
-pub stack_roll_at : {X : Type 0} (d k a : ℕ) (xs ys : List X) (z : X) → a ≡ d - 1 - k → k < d → d ≤ length xs → ys ≡ drop 1 (take (d - a) (drop a xs)) ++ take 1 (take (d - a) (drop a xs)) → stack_of d (put_mid a (d - a) xs ys) ≡ rolled k (stack_of d xs) z
-stack_roll_at d k a xs ys z p h l e =
-    let n : d - a ≡ k + 1 = omega arith in
-    let e' : ys ≡ drop 1 (take (k + 1) (drop (d - 1 - k) xs)) ++ take 1 (take (k + 1) (drop (d - 1 - k) xs)) =
-    e ∙ ap (λ i. drop 1 (take i (drop a xs)) ++ take 1 (take i (drop a xs))) n
-    ∙ ap (λ i. drop 1 (take (k + 1) (drop i xs)) ++ take 1 (take (k + 1) (drop i xs))) p in
-    ap (λ i. stack_of d (put_mid a i xs ys)) n ∙ ap (λ i. stack_of d (put_mid i (k + 1) xs ys)) p ∙ stack_roll d k xs ys z h l e'
