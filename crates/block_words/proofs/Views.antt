@@ -1,6 +1,5 @@
 -- The buffer as the machine sees it, and what the store's answers come to.
 use Rattle.std.proofs.Common.{◌≡◌, ℕ, ◌+◌, ◌-◌, ◌<◌, ◌≤◌, Bool, true, false, eqb, ltb, ◌⊎◌, List, ◌++◌, length, take, drop, Some, None, Ok, Err, Option, Result, sym, refl, ap, ◌∙◌, subst, inl, inr, arith, take-append-drop, take-take, if◌then◌else◌}
-use borrow.Rule.Slice.PartMut.{put_mid}
 use Rattle.std.proofs.lemmas.List.{drop-take, drop-drop, length-take, length-drop}
 use Rattle.std.proofs.lemmas.Bool.Decides.{nat_tests}
 use Rattle.fault.specs.declared.Fault.{Fault}
@@ -12,7 +11,7 @@ use Rattle.store.specs.Meaning.{Meaning, block, written}
 use Rattle.image.specs.Views.{low_of, high_of, line_of}
 use Rattle.image.specs.Writes.{overwritten}
 use Rattle.image.proofs.Laws.{low_kept, line_kept, high_within}
-use Rattle.image.proofs.Overwriting.{take-before, overwritten_part}
+use Rattle.image.proofs.Overwriting.{take-before}
 use Rattle.definition.specs.declared.registers.Buffer.{Buffer}
 use Rattle.definition.specs.declared.registers.Mark.{Mark}
 use Rattle.definition.specs.declared.ranged.Registers.{Registers}
@@ -173,7 +172,7 @@ module _ (r : Registers) (i : List ℕ) (s : Meaning) (n : ℕ) where
   below_same i' new l ln e = ap (take 256) e ∙ take-before 256 33024 new i (omega arith) (omega arith)
 
 -- bytes put back where they were
-pub long : (a k : ℕ) (xs : List ℕ) → a + k ≤ length xs → length (take k (drop a xs)) ≡ k
+long : (a k : ℕ) (xs : List ℕ) → a + k ≤ length xs → length (take k (drop a xs)) ≡ k
 long a k xs h = simp (length-take, length-drop) (omega arith)
 
 same_bytes : (a k : ℕ) (xs : List ℕ) → a + k ≤ length xs → overwritten a (take k (drop a xs)) xs ≡ xs
@@ -184,8 +183,19 @@ same_bytes a k xs h =
     ∙ ap (λ (z : List ℕ). take a xs ++ z) (take-append-drop k (drop a xs))
     ∙ take-append-drop a xs
 
-pub put_back : (a k : ℕ) (xs last : List ℕ) → a + k ≤ length xs → last ≡ take k (drop a xs) → put_mid a k xs last ≡ xs
-put_back a k xs last h e = overwritten_part a k xs last (take k (drop a xs)) e (sym (long a k xs h)) ∙ same_bytes a k xs h
+-- a part of the bytes put in place, between those before it and the rest behind it
+pub put_in : (a k : ℕ) (xs front rest last : List ℕ) → front ≡ take a xs → rest ≡ drop a xs → length last ≡ k → front ++ (last ++ drop k rest) ≡ overwritten a last xs
+unfolding overwritten
+put_in a k xs front rest last f r l =
+    ap (λ (p : List ℕ). p ++ (last ++ drop k rest)) f
+    ∙ ap (λ (p : List ℕ). take a xs ++ (last ++ drop k p)) r
+    ∙ ap (λ (p : List ℕ). take a xs ++ (last ++ p)) (drop-drop k a xs)
+    ∙ ap (λ j. take a xs ++ (last ++ drop (a + j) xs)) (sym l)
+
+pub put_back : (a k : ℕ) (xs front rest last : List ℕ) → a + k ≤ length xs → front ≡ take a xs → rest ≡ drop a xs → last ≡ take k rest → front ++ (last ++ drop k rest) ≡ xs
+put_back a k xs front rest last h f r e =
+    let e' : last ≡ take k (drop a xs) = e ∙ ap (take k) r in
+    put_in a k xs front rest last f r (ap length e' ∙ long a k xs h) ∙ ap (λ (p : List ℕ). overwritten a p xs) e' ∙ same_bytes a k xs h
 
 -- the block held already, or brought in
 held_is : (h : Option ℕ) (n : ℕ) → elim h [ None ↦ false | Some k ↦ eqb k n ] ≡ holding h n

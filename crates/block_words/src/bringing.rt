@@ -53,7 +53,7 @@ pub(crate) fn write_out<S: Store>(
     let Some(n) = registers.shared.buffer.held else {
         return Ok(());
     };
-    store.write(n, &image[33024..34048], place(registers))?;
+    store.write(n, image[33024..].first_chunk().unwrap(), place(registers))?;
     assign(registers, fresh(n));
     Ok(())
 }
@@ -71,7 +71,8 @@ fn read_in<S: Store>(
     ensures seat { registers.new.seat ≡ registers.old.seat }
 {
     let at = place(registers);
-    store.read(n, &mut image[33024..34048], at)?;
+    let (_, rest) = image.split_at_mut(33024);
+    store.read(n, rest.first_chunk_mut().unwrap(), at)?;
     assign(registers, fresh(n));
     Ok(())
 }

@@ -1,5 +1,5 @@
 // Copying one card to another through the store's calls, and comparing two cards.
-ghost use Rattle.std.specs.Prelude.{◌≡◌, ◌<◌, true, length};
+ghost use Rattle.std.specs.Prelude.{◌≡◌, ◌<◌, true};
 ghost use Rattle.kits.specs.Copies.{Compares, Copies, CopiesBlock, FindsDifference};
 
 use fault::{Fault, Place, Reason};
@@ -10,9 +10,8 @@ fn copy_block<S: Store, T: Store>(
     source: &S,
     target: &mut T,
     n: u16,
-    buffer: &mut [u8],
+    buffer: &mut [u8; 1024],
 ) -> Result<(), Fault>
-    requires buffer_len { length buffer.old ≡ 1024 }
     requires n_bound { (n < (S.Store.means source.now).count) × (n < (T.Store.means target.old).count) }
     requires target_value { (T.Store.means target.old).writable ≡ true }
     ensures { CopiesBlock n (S.Store.means source.now) (T.Store.means target.old) result (T.Store.means target.new) }
@@ -45,17 +44,16 @@ fn same_block<A: Store, B: Store>(
     a: &A,
     b: &B,
     n: u16,
-    one: &mut [u8],
-    other: &mut [u8],
+    one: &mut [u8; 1024],
+    other: &mut [u8; 1024],
 ) -> Result<bool, Fault>
-    requires one_len { (length one.old ≡ 1024) × (length other.old ≡ 1024) }
-    requires n_bound { (n < (A.Store.means a.now).count) × (n < (B.Store.means b.now).count) }
+    requires { (n < (A.Store.means a.now).count) × (n < (B.Store.means b.now).count) }
     ensures { Compares n (A.Store.means a.now) (B.Store.means b.now) result }
 {
     let at = Place::nowhere();
     a.read(n, one, at)?;
     b.read(n, other, at)?;
-    Ok(*one == *other)
+    Ok(one == other)
 }
 
 // The first block in which two cards differ, among those that both have.

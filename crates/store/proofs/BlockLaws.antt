@@ -48,10 +48,10 @@ blocks_of_put (suc k) (suc n) bytes ys h l w =
 -- what a read of block n, from where it begins, copies
 pub read_at : (bytes got : List ℕ) (n a : ℕ) → a ≡ n * 1024 → n < memory_blocks bytes
     → got ≡ take ((a + 1024) - a) (drop a bytes)
-    → (n < memory_blocks bytes) × (got ≡ block (memory_card bytes) n)
+    → got ≡ block (memory_card bytes) n
 read_at bytes got n a s h e =
     let k : (a + 1024) - a ≡ 1024 = omega arith in
-    (h, e ∙ ap (λ j. take j (drop a bytes)) k ∙ ap (λ j. take 1024 (drop j bytes)) s ∙ sym (get_or-blocks_of (memory_blocks bytes) n bytes h))
+    e ∙ ap (λ j. take j (drop a bytes)) k ∙ ap (λ j. take 1024 (drop j bytes)) s ∙ sym (get_or-blocks_of (memory_blocks bytes) n bytes h)
 
 -- what a write to block n, from where it begins, leaves
 pub put_at : (bytes last ys : List ℕ) (n a : ℕ) → a ≡ n * 1024 → n < memory_blocks bytes → last ≡ ys → length ys ≡ 1024

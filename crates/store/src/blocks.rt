@@ -1,40 +1,36 @@
-// Bytes as blocks: how many there are, where one begins, and reading one.
-ghost use Rattle.std.specs.Prelude.{◌≡◌, ◌*◌, ◌/◌, length};
+// Bytes as blocks: how many there are, and reading one.
+ghost use Rattle.std.specs.Prelude.{◌≡◌, ◌/◌, Some, None, if◌then◌else◌};
 ghost use Rattle.store.specs.Meaning.{Reads};
 ghost use Rattle.store.specs.Cards.{is_whole, memory_card, whole_blocks};
 
 use fault::{Fault, Place, Reason};
 
-// Are n bytes at most 65,535 whole blocks?
-pub(crate) fn whole(n: usize) -> bool
-    ensures { result ≡ is_whole n }
+// How many blocks n bytes are, where they are whole and at most 65,535.
+pub(crate) fn blocks_in(n: usize) -> Option<u16>
+    ensures { result ≡ (if is_whole n then Some (n / 1024) else None) }
 {
-    n % 1024 == 0 && n / 1024 <= 65535
+    if n % 1024 != 0 {
+        return None;
+    }
+    u16::try_from(n / 1024).ok()
 }
 
 // How many blocks n bytes are; none where they are not whole.
 pub fn count_blocks(n: usize) -> u16
     ensures { result ≡ whole_blocks n }
 {
-    if whole(n) { (n / 1024) as u16 } else { 0 }
-}
-
-// Where block n begins.
-pub(crate) fn block_start(n: u16) -> usize
-    ensures { result ≡ n * 1024 }
-{
-    n as usize * 1024
+    blocks_in(n).unwrap_or(0)
 }
 
 // Fills `into` with block n of the bytes.
-pub fn read_block(bytes: &[u8], n: u16, into: &mut [u8], at: Place) -> Result<(), Fault>
-    requires { length into.old ≡ 1024 }
+#[tactic(auto, using(crate::proofs::BlockLaws::read_at))]
+pub fn read_block(bytes: &[u8], n: u16, into: &mut [u8; 1024], at: Place) -> Result<(), Fault>
     ensures { Reads (memory_card bytes.now) n into.old at result into.new }
 {
     if n >= count_blocks(bytes.len()) {
         return Err(Fault::new(Reason::NoBlock, at));
     }
-    let start = block_start(n);
+    let start = usize::from(n) * 1024;
     into.copy_from_slice(&bytes[start..start + 1024]);
     Ok(())
 }

@@ -4,7 +4,7 @@
 mod blocks;
 mod memory_card;
 
-ghost use Rattle.std.specs.Prelude.{◌≡◌, length};
+ghost use Rattle.std.specs.Prelude.{◌≡◌};
 ghost use Rattle.store.specs.Meaning.{Meaning, Reads, Sound, Writes};
 
 pub use blocks::{count_blocks, read_block};
@@ -24,12 +24,10 @@ pub trait Store {
         ensures { result ≡ (means self.now).writable };
 
     // Fills `into` with block n.
-    fn read(&self, n: u16, into: &mut [u8], at: Place) -> Result<(), Fault>
-        requires { length into.old ≡ 1024 }
+    fn read(&self, n: u16, into: &mut [u8; 1024], at: Place) -> Result<(), Fault>
         ensures { Reads (means self.now) n into.old at result into.new };
 
     // Replaces block n by `from`.
-    fn write(&mut self, n: u16, from: &[u8], at: Place) -> Result<(), Fault>
-        requires { length from.now ≡ 1024 }
+    fn write(&mut self, n: u16, from: &[u8; 1024], at: Place) -> Result<(), Fault>
         ensures { Writes (means self.old) n from.now at result (means self.new) };
 }

@@ -5,7 +5,7 @@ ghost use Rattle.store.specs.Cards.{BlocksInOrder, is_memory_card, memory_card};
 ghost use Rattle.store.specs.Soundness.{card_sound};
 
 use super::Store;
-use super::blocks::{block_start, count_blocks, read_block, whole};
+use super::blocks::{blocks_in, count_blocks, read_block};
 use fault::{Fault, Place, Reason};
 
 // A card over lent bytes, always writable; one that the query refuses has no blocks.
@@ -16,14 +16,15 @@ pub struct MemoryCard<'a> {
 
 impl<'a> MemoryCard<'a> {
     // Are the bytes at most 65,535 whole blocks? Block n of the card is then the n-th 1,024 bytes.
+    #[tactic(auto, using(crate::proofs::BlockLaws::blocks_in_order))]
     pub fn query(bytes: &[u8]) -> Result<(), Fault>
         ensures answer { MatchResult result (λ _. is_memory_card bytes.now ≡ true) (λ f. (is_memory_card bytes.now ≡ false) × (f ≡ fault_of WrongLength (place_of 0 0 0))) }
         ensures order { BlocksInOrder bytes.now }
     {
-        if whole(bytes.len()) {
-            return Ok(());
+        match blocks_in(bytes.len()) {
+            Some(_) => Ok(()),
+            None => Err(Fault::new(Reason::WrongLength, Place::nowhere())),
         }
-        Err(Fault::new(Reason::WrongLength, Place::nowhere()))
     }
 
     // The card over these bytes.
@@ -54,15 +55,16 @@ impl<'a> Store for MemoryCard<'a> {
         true
     }
 
-    fn read(&self, n: u16, into: &mut [u8], at: Place) -> Result<(), Fault> {
+    fn read(&self, n: u16, into: &mut [u8; 1024], at: Place) -> Result<(), Fault> {
         read_block(self.bytes, n, into, at)
     }
 
-    fn write(&mut self, n: u16, from: &[u8], at: Place) -> Result<(), Fault> {
+    #[tactic(auto, using(crate::proofs::BlockLaws::put_at))]
+    fn write(&mut self, n: u16, from: &[u8; 1024], at: Place) -> Result<(), Fault> {
         if n >= count_blocks(self.bytes.len()) {
             return Err(Fault::new(Reason::NoBlock, at));
         }
-        let start = block_start(n);
+        let start = usize::from(n) * 1024;
         self.bytes[start..start + 1024].copy_from_slice(from);
         Ok(())
     }

@@ -46,12 +46,12 @@ impl<S: Store> Store for Switched<S> {
         self.card.writable() && !self.locked
     }
 
-    fn read(&self, n: u16, into: &mut [u8], at: Place) -> Result<(), Fault> {
+    fn read(&self, n: u16, into: &mut [u8; 1024], at: Place) -> Result<(), Fault> {
         self.card.read(n, into, at)
     }
 
     // A block that is not there is refused first, by the card inside.
-    fn write(&mut self, n: u16, from: &[u8], at: Place) -> Result<(), Fault> {
+    fn write(&mut self, n: u16, from: &[u8; 1024], at: Place) -> Result<(), Fault> {
         if self.locked && n < self.card.count() {
             return Err(Fault::new(Reason::NotWritable, at));
         }

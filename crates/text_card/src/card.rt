@@ -143,11 +143,11 @@ impl Store for TextCard {
         false
     }
 
-    fn read(&self, n: u16, into: &mut [u8], at: Place) -> Result<(), Fault> {
+    fn read(&self, n: u16, into: &mut [u8; 1024], at: Place) -> Result<(), Fault> {
         read_block(self.bytes.as_slice(), n, into, at)
     }
 
-    fn write(&mut self, n: u16, _from: &[u8], at: Place) -> Result<(), Fault> {
+    fn write(&mut self, n: u16, _from: &[u8; 1024], at: Place) -> Result<(), Fault> {
         if n >= count_blocks(self.bytes.len()) {
             return Err(Fault::new(Reason::NoBlock, at));
         }
