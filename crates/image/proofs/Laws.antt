@@ -1,6 +1,6 @@
 -- Laws of the views: what they hold, and how a write is carried by them.
-use Rattle.std.proofs.Common.{◌≡◌, ℕ, ◌+◌, ◌-◌, ◌<◌, ◌≤◌, List, ◌++◌, length, get_or, take, drop, sym, refl, ap, ◌∙◌, arith}
-use Rattle.std.proofs.lemmas.List.{append_assoc, length-append, length-take, length-take-le, length-drop, take_at, drop_at, drop-append-le, drop-take, get_or-take, get_or-drop, get_or-append_right}
+use Rattle.std.proofs.Common.{◌≡◌, ℕ, ◌+◌, ◌-◌, ◌<◌, ◌≤◌, List, ◌++◌, length, get_or, take, drop, replicate, sym, refl, ap, ◌∙◌, arith}
+use Rattle.std.proofs.lemmas.List.{append_assoc, length-append, length-replicate, length-take, length-take-le, length-drop, take_at, drop_at, drop-append-le, drop-take, get_or-take, get_or-drop, get_or-append_right}
 use Rattle.image.specs.Cells.{cell_at, zeros}
 use Rattle.image.specs.Writes.{overwritten}
 use Rattle.image.specs.Views.{low_of, line_of, high_of, SeenInViews, CarriedByViews}
@@ -134,3 +134,6 @@ module _ (a : ℕ) (new xs : List ℕ) (fits : a + length new ≤ length xs) whe
     line_kept = λ b. ap line_of e ∙ line_kept b;
     line_written = λ p l. ap line_of e ∙ line_written p l;
   }
+
+pub carried_fill : (a n x : ℕ) (xs image : List ℕ) → a + n ≤ length xs → image ≡ overwritten a (replicate n x) xs → CarriedByViews a (replicate n x) xs image
+carried_fill a n x xs image h e = carried a (replicate n x) xs (omega (arith, length-replicate n x)) image e

@@ -1,8 +1,9 @@
 -- Laws of a list in which bytes are overwritten.
-use Rattle.std.proofs.Common.{◌≡◌, ℕ, ◌+◌, ◌-◌, ◌/◌, ◌%◌, ◌<◌, ◌≤◌, List, [], ◌∷◌, ◌++◌, length, get_or, take, drop, set, sym, refl, ap, ◌∙◌, arith}
+use Rattle.std.proofs.Common.{◌≡◌, ℕ, ◌+◌, ◌-◌, ◌/◌, ◌%◌, ◌<◌, ◌≤◌, List, [], ◌∷◌, ◌++◌, length, get_or, take, drop, set, sym, refl, ap, ◌∙◌, arith, w16}
 use borrow.Rule.Slice.PartMut.{put_mid}
 use lib.Seq.{take-append-add, drop-append-add}
 use Rattle.std.proofs.lemmas.List.{append_assoc, length-append, length-take, length-take-le, length-drop, length_push, take-append-drop, take-append-le, take-take, take_at, drop-drop, drop_at, drop-append-le, drop-take, drop_more, set_at}
+use Rattle.std.specs.Int.{to_le_bytes}
 use Rattle.image.specs.Cells.{cell, set_cell}
 use Rattle.image.specs.Writes.{overwritten}
 
@@ -112,3 +113,8 @@ overwritten_part a k xs last new e n =
     ap (λ i. take a xs ++ (last ++ drop i (drop a xs))) n
     ∙ ap (λ (p : List ℕ). take a xs ++ (p ++ drop (length new) (drop a xs))) e
     ∙ ap (λ (p : List ℕ). take a xs ++ (new ++ p)) (drop-drop (length new) a xs)
+
+-- the bytes that a cell is written as are the cell
+pub cell_bytes : (x : ℕ) → x < 65536 → to_le_bytes w16 x ≡ cell x
+unfolding cell
+cell_bytes x h = let e : x / 256 % 256 ≡ x / 256 = omega arith in ap (λ high. x % 256 ∷ high ∷ []) e

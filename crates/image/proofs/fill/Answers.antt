@@ -1,17 +1,12 @@
-use Rattle.std.proofs.Common.{◌≡◌, ◌+◌, ◌-◌, ◌≤◌, length, take, drop, replicate, ap, ◌∙◌, arith}
-use Rattle.std.proofs.lemmas.List.{length-replicate, length-take, length-drop}
+use Rattle.std.proofs.Common.{◌≡◌, ◌+◌, ◌-◌, replicate, rules}
+use borrow.Rule.Slice.PartMut.{put_mid}
+use Rattle.image.specs.Writes.{overwritten}
 use Rattle.image.proofs.Overwriting.{overwritten_part}
-use Rattle.image.proofs.Laws.{carried}
+use Rattle.image.proofs.Laws.{carried_fill}
 use Rattle.image.proofs.fill.Goals as goal
 
-pub returns : goal.returns
-returns c =
-    let at = c.args.at in
-    let n = c.args.n in
-    let end = c.behind-end.result in
+pub returns-clause-views : goal.returns-clause-views
+returns-clause-views c =
     let xs = c.args.image.now in
-    let new = replicate n c.args.x in
-    let l : length (take (end - at) (drop at xs)) ≡ n = simp (length-take, length-drop) (omega arith) in
-    let e = overwritten_part at (end - at) xs c.fill.new.self new (c.fill.ensures.after (λ y p. p) ∙ ap (λ k. replicate k c.args.x) l) (omega (arith, length-replicate n c.args.x)) in
-    let h : at + length new ≤ length xs = omega (arith, length-replicate n c.args.x) in
-    record { written = e; views = carried at new xs h _ e }
+    let e : put_mid c.args.at (c.args.at + c.args.n - c.args.at) xs c.fill.new.self ≡ overwritten c.args.at (replicate c.args.n c.args.x) xs = search (rules, overwritten_part) in
+    carried_fill c.args.at c.args.n c.args.x xs _ c.requires e
