@@ -1,10 +1,12 @@
 -- Laws of the views: what they hold, and how a write is carried by them.
-use Rattle.std.proofs.Common.{◌≡◌, ℕ, ◌+◌, ◌-◌, ◌<◌, ◌≤◌, List, ◌++◌, length, get_or, take, drop, replicate, sym, refl, ap, ◌∙◌, arith}
+use Rattle.std.proofs.Common.{◌≡◌, ℕ, ◌+◌, ◌-◌, ◌<◌, ◌≤◌, List, ◌++◌, length, get_or, take, drop, replicate, sym, refl, ap, ◌∙◌, arith, w16}
 use Rattle.std.proofs.lemmas.List.{append_assoc, length-append, length-replicate, length-take, length-take-le, length-drop, take_at, drop_at, drop-append-le, drop-take, get_or-take, get_or-drop, get_or-append_right}
-use Rattle.image.specs.Cells.{cell_at, zeros}
+use borrow.Rule.Slice.PartMut.{put_mid}
+use Rattle.std.specs.Int.{to_le_bytes}
+use Rattle.image.specs.Cells.{cell, cell_at, set_cell, zeros}
 use Rattle.image.specs.Writes.{overwritten}
 use Rattle.image.specs.Views.{low_of, line_of, high_of, SeenInViews, CarriedByViews}
-use Rattle.image.proofs.Overwriting.{take-before, take_upto, take_within, drop_behind, drop_within, behind_front}
+use Rattle.image.proofs.Overwriting.{take-before, take_upto, take_within, drop_behind, drop_within, behind_front, cell_bytes, overwritten_cell, overwritten_part}
 
 -- LENGTHS
 pub length_low : (dp : ℕ) (xs : List ℕ) → 256 ≤ dp → dp ≤ length xs → length (low_of dp xs) ≡ dp
@@ -135,5 +137,25 @@ module _ (a : ℕ) (new xs : List ℕ) (fits : a + length new ≤ length xs) whe
     line_written = λ p l. ap line_of e ∙ line_written p l;
   }
 
-pub carried_fill : (a n x : ℕ) (xs image : List ℕ) → a + n ≤ length xs → image ≡ overwritten a (replicate n x) xs → CarriedByViews a (replicate n x) xs image
-carried_fill a n x xs image h e = carried a (replicate n x) xs (omega (arith, length-replicate n x)) image e
+-- a part that was written through a borrow
+pub carried_part : (a k : ℕ) (xs last new : List ℕ) → last ≡ new → k ≡ length new → a + length new ≤ length xs → CarriedByViews a new xs (put_mid a k xs last)
+carried_part a k xs last new e n h = carried a new xs h _ (overwritten_part a k xs last new e n)
+
+-- a part filled with one value
+pub carried_fill : (a k n x : ℕ) (xs last : List ℕ) → last ≡ replicate (length (take k (drop a xs))) x → k ≡ n → a + n ≤ length xs → CarriedByViews a (replicate n x) xs (put_mid a k xs last)
+carried_fill a k n x xs last e m h =
+    let l : length (take k (drop a xs)) ≡ n = simp (length-take, length-drop) (omega arith) in
+    carried_part a k xs last (replicate n x) (e ∙ ap (λ j. replicate j x) l) (m ∙ sym (length-replicate n x)) (omega (arith, length-replicate n x))
+
+-- a cell written as the library's bytes
+module _ (a k : ℕ) (xs last : List ℕ) (x : ℕ) (e : last ≡ to_le_bytes w16 x) (h : x < 65536) (two : k ≡ 2) where
+  pub cell_put : put_mid a k xs last ≡ overwritten a (cell x) xs
+  unfolding cell
+  cell_put = overwritten_part a k xs last (cell x) (e ∙ cell_bytes x h) two
+
+  pub cell_set : a + 1 < length xs → put_mid a k xs last ≡ set_cell xs a x
+  cell_set l = cell_put ∙ sym (overwritten_cell a xs x l)
+
+  pub carried_cell : a + 1 < length xs → CarriedByViews a (cell x) xs (put_mid a k xs last)
+  unfolding cell
+  carried_cell l = carried a (cell x) xs (omega arith) _ cell_put

@@ -17,6 +17,7 @@ pub fn fetch(image: &[u8], at: usize) -> u16
 }
 
 // Writes a cell at an address.
+#[tactic(auto, using(crate::proofs::Laws::cell_put, crate::proofs::Laws::cell_set, crate::proofs::Laws::carried_cell))]
 pub fn store(image: &mut [u8], at: usize, x: u16)
     requires { at + 1 < length image.old }
     ensures after { image.new ≡ set_cell image.old at x }
@@ -27,7 +28,7 @@ pub fn store(image: &mut [u8], at: usize, x: u16)
 }
 
 // Writes n bytes of one value from an address on.
-#[tactic(auto, using(crate::proofs::Overwriting::overwritten_part, crate::proofs::Laws::carried))]
+#[tactic(auto, using(crate::proofs::Overwriting::overwritten_part, crate::proofs::Laws::carried_fill))]
 pub fn fill(image: &mut [u8], at: usize, n: usize, x: u8)
     requires { at + n ≤ length image.old }
     ensures written { image.new ≡ overwritten at (replicate n x) image.old }
@@ -37,7 +38,7 @@ pub fn fill(image: &mut [u8], at: usize, n: usize, x: u8)
 }
 
 // Writes bytes from an address on, and answers the address behind them.
-#[tactic(auto, using(crate::proofs::Overwriting::overwritten_part, crate::proofs::Laws::carried))]
+#[tactic(auto, using(crate::proofs::Overwriting::overwritten_part, crate::proofs::Laws::carried_part))]
 pub fn append(image: &mut [u8], end: usize, bytes: &[u8]) -> usize
     requires { end + length bytes.now ≤ length image.old }
     ensures behind { result ≡ end + length bytes.now }
