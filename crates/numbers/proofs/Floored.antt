@@ -1,10 +1,12 @@
 -- Floored division of sizes and signs is floored division of the integers.
-use Rattle.std.proofs.Common.{◌≡◌, ℕ, suc, ◌+◌, ◌-◌, ◌*◌, ◌/◌, ◌%◌, ◌<◌, ◌≤◌, Bool, true, false, not, eqb, ℤ, pos, negsuc, ◌*ℤ◌, neg_ℤ, ◌≤ℤ◌, ◌<ℤ◌, sym, refl, ap, ◌∙◌, subst, inl, inr, ⊎_elim, mod-lt, div-add-mod', div-mul-le_self, arith}
+use Rattle.std.proofs.Common.{◌≡◌, ℕ, suc, ◌+◌, ◌-◌, ◌*◌, ◌/◌, ◌%◌, ◌<◌, ◌≤◌, Bool, true, false, not, eqb, ℤ, pos, negsuc, ◌*ℤ◌, neg_ℤ, ◌≤ℤ◌, ◌<ℤ◌, sym, refl, ap, ◌∙◌, subst, inl, inr, ⊎_elim, mod-lt, div-add-mod', div-mul-le_self, add-mul, Option, arith}
 use mathlib.Core.Bool.{beq}
 use lib.IntN.{*ℤ_comm, neg_ℤ-neg_ℤ}
 use borrow.Author.Differences.{up, down, neg_is}
 use Rattle.std.proofs.lemmas.Nat.{mul-le}
 use Rattle.std.proofs.lemmas.Int.{ints}
+use Rattle.std.proofs.lemmas.Grind.{div_ceil_times}
+use Rattle.std.specs.Int.{div_ceil}
 use Rattle.std.proofs.lemmas.Bool.Decides.{nat_tests, leb_tells, eqb_tells}
 use Rattle.numbers.specs.Cells.{is_negative, magnitude, signed_value}
 use Rattle.numbers.specs.Division.{IsFloored, InCell, Divides, floored, answered, signed, cell_of, product, rounded_up}
@@ -68,6 +70,17 @@ rounded_up_lem m n h =
     let e = div-add-mod' (m + (n - 1)) n in
     let l = mod-lt (m + (n - 1)) h in
     (omega arith, omega arith)
+
+-- the library's quotient, rounded up
+no_more : (p q m n : ℕ) → m ≤ q * n → p * n < m + n → p ≤ q
+no_more p q m n h l =
+    ⊎_elim (λ y. y.1) (λ y. absurd (omega (arith, mul-le (q + 1) n p n (omega (arith, y.1)) (omega arith), add-mul q 1 n))) (leb_tells p q)
+
+pub rounded_up_is : (m n : ℕ) → 0 < n → rounded_up m n ≡ div_ceil m n
+rounded_up_is m n h =
+    let e = div_ceil_times m n h in
+    let f = rounded_up_lem m n h in
+    omega (arith, no_more (div_ceil m n) (rounded_up m n) m n f.0 e.1, no_more (rounded_up m n) (div_ceil m n) m n e.0 f.1)
 
 -- of numbers on two sides it is not above 0
 other_side : (t : Bool) (m n : ℕ) → 0 < n → IsFloored (whole (not t) m) (whole t n) (whole true (rounded_up m n)) (whole t (rounded_up m n * n - m))
@@ -187,16 +200,17 @@ times_whole true false m n = negated_times (pos m) (pos n)
 times_whole false true m n = times_negated (pos m) (pos n)
 times_whole false false m n = refl
 
-pub cells : (a b : ℕ) → a < 65536 → b < 65536 → Divides (signed_value a) (signed_value b) (answered (floored (signed a) (signed b)))
-cells a b h k =
-    let P : ℤ → Type 0 = λ z. Divides z (signed_value b) (answered (floored (signed a) (signed b))) in
-    let Q : ℤ → Type 0 = λ z. Divides (whole (is_negative a) (magnitude a)) z (answered (floored (signed a) (signed b))) in
-    subst P (sym (signed_whole a h)) (subst Q (sym (signed_whole b k)) (divides (is_negative a) (magnitude a) (is_negative b) (magnitude b) (magnitude_le b k)))
+module _ (a b : ℕ) (r : Option (ℕ × ℕ)) where
+  pub cells : r ≡ answered (floored (signed a) (signed b)) → a < 65536 → b < 65536 → Divides (signed_value a) (signed_value b) r
+  cells e h k =
+      let P : ℤ → Type 0 = λ z. Divides z (signed_value b) (answered (floored (signed a) (signed b))) in
+      let Q : ℤ → Type 0 = λ z. Divides (whole (is_negative a) (magnitude a)) z (answered (floored (signed a) (signed b))) in
+      rw e (subst P (sym (signed_whole a h)) (subst Q (sym (signed_whole b k)) (divides (is_negative a) (magnitude a) (is_negative b) (magnitude b) (magnitude_le b k))))
 
-pub products : (a b d : ℕ) → a < 65536 → b < 65536 → d < 65536 → Divides (signed_value a *ℤ signed_value b) (signed_value d) (answered (floored (product a b) (signed d)))
-products a b d h k l =
-    let e : signed_value a *ℤ signed_value b ≡ whole (product a b).is_below (product a b).size =
-    ap (λ z. z *ℤ signed_value b) (signed_whole a h) ∙ ap (λ z. whole (is_negative a) (magnitude a) *ℤ z) (signed_whole b k) ∙ times_whole (is_negative a) (is_negative b) (magnitude a) (magnitude b) in
-    let P : ℤ → Type 0 = λ z. Divides z (signed_value d) (answered (floored (product a b) (signed d))) in
-    let Q : ℤ → Type 0 = λ z. Divides (whole (product a b).is_below (product a b).size) z (answered (floored (product a b) (signed d))) in
-    subst P (sym e) (subst Q (sym (signed_whole d l)) (divides (product a b).is_below (product a b).size (is_negative d) (magnitude d) (magnitude_le d l)))
+  pub products : (d : ℕ) → r ≡ answered (floored (product a b) (signed d)) → a < 65536 → b < 65536 → d < 65536 → Divides (signed_value a *ℤ signed_value b) (signed_value d) r
+  products d f h k l =
+      let e : signed_value a *ℤ signed_value b ≡ whole (product a b).is_below (product a b).size =
+      ap (λ z. z *ℤ signed_value b) (signed_whole a h) ∙ ap (λ z. whole (is_negative a) (magnitude a) *ℤ z) (signed_whole b k) ∙ times_whole (is_negative a) (is_negative b) (magnitude a) (magnitude b) in
+      let P : ℤ → Type 0 = λ z. Divides z (signed_value d) (answered (floored (product a b) (signed d))) in
+      let Q : ℤ → Type 0 = λ z. Divides (whole (product a b).is_below (product a b).size) z (answered (floored (product a b) (signed d))) in
+      rw f (subst P (sym e) (subst Q (sym (signed_whole d l)) (divides (product a b).is_below (product a b).size (is_negative d) (magnitude d) (magnitude_le d l))))

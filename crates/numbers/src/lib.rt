@@ -10,18 +10,14 @@ ghost use Rattle.numbers.specs.Text.{Prints, Reads, digit_byte, digit_of, is_bas
 fn is_negative(cell: u16) -> bool
     ensures { result ≡ is_negative cell }
 {
-    cell >= 32768
+    cell.cast_signed() < 0
 }
 
 // The size of a cell's signed number.
 fn size(cell: u16) -> u16
     ensures { result ≡ magnitude cell }
 {
-    if is_negative(cell) {
-        cell.wrapping_neg()
-    } else {
-        cell
-    }
+    cell.cast_signed().unsigned_abs()
 }
 
 // The cell of a number of that sign and size.
@@ -32,6 +28,7 @@ fn cell_of(below: bool, size: u16) -> u16
 }
 
 // Remainder and quotient, floored, of a number of that sign and size by a signed cell.
+#[tactic(auto, using(crate::proofs::Floored::rounded_up_is))]
 fn divide_size(below: bool, dividend: u32, divisor: u16) -> Option<(u16, u16)>
     requires { dividend ≤ 1073741824 }
     ensures { result ≡ answered (floored (record { is_below = below; size = dividend }) (signed divisor)) }
@@ -49,7 +46,7 @@ fn divide_size(below: bool, dividend: u32, divisor: u16) -> Option<(u16, u16)>
         return Some((cell_of(under, (dividend % by) as u16), quotient as u16));
     }
     // rounded up in size, which is down
-    let quotient = (dividend + (by - 1)) / by;
+    let quotient = dividend.div_ceil(by);
     if quotient > 32768 {
         return None;
     }
@@ -67,6 +64,7 @@ fn differ_in_sign(a: u16, b: u16) -> bool
 }
 
 // Remainder and quotient of signed cells, floored, where the quotient is in a cell.
+#[tactic(auto, using(crate::proofs::Floored::cells))]
 pub fn divide(a: u16, b: u16) -> Option<(u16, u16)>
     ensures divided { Divides (signed_value a) (signed_value b) result }
     ensures defined { result ≡ answered (floored (signed a) (signed b)) }
@@ -75,6 +73,7 @@ pub fn divide(a: u16, b: u16) -> Option<(u16, u16)>
 }
 
 // The same of the whole product of a and b, divided by c.
+#[tactic(auto, using(crate::proofs::Floored::products, crate::proofs::Floored::magnitude_le))]
 pub fn divide_product(a: u16, b: u16, c: u16) -> Option<(u16, u16)>
     ensures divided { Divides (signed_value a *ℤ signed_value b) (signed_value c) result }
     ensures defined { result ≡ answered (floored (product a b) (signed c)) }
@@ -87,35 +86,16 @@ pub fn divide_product(a: u16, b: u16, c: u16) -> Option<(u16, u16)>
 pub fn is_base(base: u16) -> bool
     ensures { result ≡ is_base base }
 {
-    2 <= base && base <= 36
-}
-
-// The value of a digit's byte; 36 where it is none.
-fn digit_value(byte: u8) -> u16
-    ensures { result ≡ digit_of byte }
-{
-    match byte {
-        b'0'..=b'9' => u16::from(byte - b'0'),
-        b'A'..=b'Z' => u16::from(byte - b'A' + 10),
-        b'a'..=b'z' => u16::from(byte - b'a' + 10),
-        _ => 36,
-    }
+    (2..=36).contains(&base)
 }
 
 // The value with one digit more, where it is a digit of the base and the value is in a cell.
 fn with_digit(base: u16, value: u16, byte: u8) -> Option<u16>
-    requires { base ≤ 36 }
+    requires { (2 ≤ base) × (base ≤ 36) }
     ensures { result ≡ up_to 65535 (λ n. n) (value_of base value (byte ∷ [])) }
 {
-    let digit = digit_value(byte);
-    if digit >= base {
-        return None;
-    }
-    let next = u32::from(value) * u32::from(base) + u32::from(digit);
-    if next > 65535 {
-        return None;
-    }
-    Some(next as u16)
+    let digit = char::from(byte).to_digit(u32::from(base))?;
+    value.checked_mul(base)?.checked_add(digit as u16)
 }
 
 // The value of one or more digits, where it is in a cell.
@@ -126,9 +106,9 @@ fn read_digits(base: u16, text: &[u8]) -> Option<u16>
     if text.is_empty() {
         return None;
     }
-    let mut value: u16 = 0;
-    for byte in text {
-        value = with_digit(base, value, *byte)?;
+    let mut value = 0;
+    for &byte in text {
+        value = with_digit(base, value, byte)?;
     }
     Some(value)
 }
@@ -137,11 +117,7 @@ fn read_digits(base: u16, text: &[u8]) -> Option<u16>
 fn negative(size: Option<u16>) -> Option<u16>
     ensures { result ≡ up_to 32768 negated size }
 {
-    let size = size?;
-    if size > 32768 {
-        return None;
-    }
-    Some(size.wrapping_neg())
+    size.filter(|&size| size <= 32768).map(u16::wrapping_neg)
 }
 
 // The cell of a number: an optional minus, then one or more digits of the base.
@@ -170,14 +146,6 @@ fn digit_byte(digit: u16) -> u8
     }
 }
 
-// A number without its last digit.
-fn front(base: u16, number: u16) -> u16
-    requires { 2 ≤ base }
-    ensures { result ≡ number / base }
-{
-    number / base
-}
-
 // How many bytes a cell takes as an unsigned number.
 pub fn unsigned_width(base: u16, value: u16) -> usize
     requires { (2 ≤ base) × (base ≤ 36) }
@@ -187,7 +155,7 @@ pub fn unsigned_width(base: u16, value: u16) -> usize
     let mut width = 1;
     let mut rest = value;
     while rest >= base {
-        rest = front(base, rest);
+        rest /= base;
         width += 1;
     }
     width
@@ -200,10 +168,11 @@ pub fn write_unsigned(base: u16, value: u16, out: &mut [u8])
     ensures reads_back { number_in base out.new ≡ Some value }
     ensures defined { out.new ≡ unsigned_text base value }
 {
-    let mut rest = value;
+    let mut left = value;
+    // By place: of what `iter_mut().rev()` writes the check knows no byte.
     for place in (0..out.len()).rev() {
-        out[place] = digit_byte(rest % base);
-        rest = front(base, rest);
+        out[place] = digit_byte(left % base);
+        left /= base;
     }
 }
 

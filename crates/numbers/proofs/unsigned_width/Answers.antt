@@ -7,11 +7,10 @@ loop-rest-init c = counted_none c.args.base c.args.value
 
 pub loop-rest-preserved : goal.loop-rest-preserved
 loop-rest-preserved c =
-    subst (Counted c.args.base c.args.value (c.loop-rest.width + 1)) (sym c.front-rest.ensures)
-    (counted_more c.args.base c.args.value c.loop-rest.width c.loop-rest.rest c.requires.0 (omega arith) c.loop-rest.invariant)
+    counted_more c.args.base c.args.value c.loop-rest.width c.loop-rest.rest c.requires.0 (omega arith) c.loop-rest.invariant
 
 pub loop-rest-smaller : goal.loop-rest-smaller
-loop-rest-smaller c = omega (arith, c.front-rest.ensures, front_falls c.args.base c.loop-rest.rest c.requires.0 (omega arith))
+loop-rest-smaller c = front_falls c.args.base c.loop-rest.rest c.requires.0 (omega arith)
 
 pub returns : goal.returns
 returns c =

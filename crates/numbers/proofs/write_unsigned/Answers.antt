@@ -8,15 +8,14 @@ loop-place-init c = written_none c.args.base c.args.value c.args.out.now c.requi
 
 pub loop-place-preserved : goal.loop-place-preserved
 loop-place-preserved c =
-    subst (λ rest. Written c.args.base c.args.value (set c.loop-place.out (c.loop-place.place - 1) c.digit_byte.result) rest (c.loop-place.place - 1)) (sym c.front-rest.ensures)
-    (written_more c.args.base c.args.value c.loop-place.out c.loop-place.rest c.digit_byte.result c.loop-place.place (omega arith) (omega arith) c.digit_byte.ensures c.loop-place.invariant)
+    written_more c.args.base c.args.value c.loop-place.out c.loop-place.left c.digit_byte.result c.loop-place.place (omega arith) (omega arith) c.digit_byte.ensures c.loop-place.invariant
 
 pub returns : goal.returns
 returns c =
     let base = c.args.base in
     let value = c.args.value in
     let e : c.loop-place.out ≡ unsigned_text base value =
-    written_all base value c.loop-place.out c.loop-place.rest c.loop-place.place (omega arith) c.loop-place.invariant in
+    written_all base value c.loop-place.out c.loop-place.left c.loop-place.place (omega arith) c.loop-place.invariant in
     record {
       prints = subst (λ text. Prints base text (pos value)) (sym e) (numeral base c.requires.0 c.requires.1.0 value);
       reads_back = ap (number_in base) e ∙ unsigned_back base c.requires.0 c.requires.1.0 value (omega arith);
