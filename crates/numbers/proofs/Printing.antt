@@ -45,23 +45,36 @@ digit_more k base n h =
 pub front_falls : (base n : ℕ) → 2 ≤ base → base ≤ n → n / base < n
 front_falls base n h l = div-lt_self (omega arith) (omega arith)
 
--- the loop that counts: width digits and those of the rest are one too many
-abbrev pub Counted : ℕ → ℕ → ℕ → ℕ → Type 0
-Counted base value width rest =
-    (width + rest ≤ value + 1) × ((k : ℕ) × (rest < k) × (length (unsigned_text base value) + 1 ≡ width + length (digits_of k base rest [])))
+-- how many digits a number has, in more turns than it needs
+count_enough : (k j base n : ℕ) → 2 ≤ base → n < k → n < j → count k base n ≡ count j base n
+count_enough zero j base n b h l = absurd (omega arith)
+count_enough (suc k) zero base n b h l = absurd (omega arith)
+count_enough (suc k) (suc j) base n b h l =
+    ⊎_elim
+    (λ y. rw y.0)
+    (λ y.
+    let falls : n / base < n = front_falls base n b (omega (arith, y.1)) in
+    rw y.0 (ap suc (count_enough k j base (n / base) b (omega arith) (omega arith))))
+    (leb_tells (suc n) base)
 
-pub counted_none : (base value : ℕ) → Counted base value 1 value
-counted_none base value = (omega arith, (value + 1, omega arith, omega arith))
+unfoldable pub width_of : ℕ → ℕ → ℕ
+width_of base n = length (unsigned_text base n)
 
-pub counted_more : (base value width rest : ℕ) → 2 ≤ base → base ≤ rest → Counted base value width rest → Counted base value (width + 1) (rest / base)
-counted_more base value width rest h l (w, (zero, s, t)) = absurd (omega arith)
-counted_more base value width rest h l (w, (suc k, s, t)) =
-    let falls = front_falls base rest h l in
-    (omega arith, (k, omega arith, omega (arith, digit_more k base rest l)))
+pub width_one : (base n : ℕ) → n < base → width_of base n ≡ 1
+unfolding width_of
+width_one base n h = rw add-one (one_digit n base n h)
 
-pub counted_all : (base value width rest : ℕ) → rest < base → Counted base value width rest → width ≡ length (unsigned_text base value)
-counted_all base value width rest h (w, (zero, s, t)) = absurd (omega arith)
-counted_all base value width rest h (w, (suc k, s, t)) = omega (arith, one_digit k base rest h)
+pub width_more : (base n : ℕ) → 2 ≤ base → base ≤ n → width_of base n ≡ 1 + width_of base (n / base)
+unfolding width_of
+width_more base n b h =
+    let falls : n / base < n = front_falls base n b h in
+    let more = digit_more n base n h in
+    let same = count_enough n (n / base + 1) base (n / base) b falls (omega arith) in
+    rw (add-one) (omega (arith, more, same, length_digits n base (n / base) [], length_digits (n / base + 1) base (n / base) []))
+
+pub width_is : (base n : ℕ) → width_of base n ≡ length (unsigned_text base n)
+unfolding width_of
+width_is base n = refl
 
 -- the loop that writes: the digits of the rest stand before those written
 abbrev pub Written : ℕ → ℕ → List ℕ → ℕ → ℕ → Type 0
@@ -96,8 +109,9 @@ count_le (suc k) zero base n h l = let e : ltb n base ≡ true = grind (arith, n
 count_le (suc k) (suc j) base n h l =
     ⊎_elim (λ y. rw y.0 (omega arith)) (λ y. rw y.0 (omega (arith, count_le k j base (n / base) h (front_below (suc j) base n h l)))) (leb_tells (suc n) base)
 
-pub unsigned_short : (base n : ℕ) → 2 ≤ base → n < 65536 → length (unsigned_text base n) ≤ 16
-unsigned_short base n h l = omega (arith, length_digits (n + 1) base n [], count_le (n + 1) 15 base n h l)
+pub width_short : (base n : ℕ) → 2 ≤ base → n < 65536 → width_of base n ≤ 16
+unfolding width_of
+width_short base n h l = omega (arith, length_digits (n + 1) base n [], count_le (n + 1) 15 base n h l)
 
 -- a minus, and digits written behind it
 behind : (b : ℕ) (xs ys : List ℕ) → 0 < length xs → put_mid 1 (length (set xs 0 b) - 1) (set xs 0 b) ys ≡ b ∷ ys

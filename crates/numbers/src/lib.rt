@@ -99,6 +99,7 @@ fn with_digit(base: u16, value: u16, byte: u8) -> Option<u16>
 }
 
 // The value of one or more digits, where it is in a cell.
+#[tactic(auto, using(crate::proofs::Reading::more, crate::proofs::Reading::stops, crate::proofs::Reading::ends))]
 fn read_digits(base: u16, text: &[u8]) -> Option<u16>
     requires { (2 ≤ base) × (base ≤ 36) }
     ensures { result ≡ up_to 65535 (λ n. n) (magnitude_of base text.now) }
@@ -147,6 +148,7 @@ fn digit_byte(digit: u16) -> u8
 }
 
 // How many bytes a cell takes as an unsigned number.
+#[tactic(auto, using(crate::proofs::Printing::width_one, crate::proofs::Printing::width_more, crate::proofs::Printing::width_is, crate::proofs::Printing::width_short, crate::proofs::Printing::front_falls))]
 pub fn unsigned_width(base: u16, value: u16) -> usize
     requires { (2 ≤ base) × (base ≤ 36) }
     ensures exact { result ≡ length (unsigned_text base value) }
@@ -162,6 +164,7 @@ pub fn unsigned_width(base: u16, value: u16) -> usize
 }
 
 // Writes a cell as an unsigned number into just its place, the last digit last.
+#[tactic(auto, using(crate::proofs::Printing::written_none, crate::proofs::Printing::written_more))]
 pub fn write_unsigned(base: u16, value: u16, out: &mut [u8])
     requires { (2 ≤ base) × ((base ≤ 36) × (length out.old ≡ length (unsigned_text base value))) }
     ensures prints { Prints base out.new (pos value) }
@@ -190,6 +193,7 @@ pub fn signed_width(base: u16, value: u16) -> usize
 }
 
 // Writes a cell as a signed number into just its place.
+#[tactic(auto, using(crate::proofs::Printing::minus_text, crate::proofs::Printing::signed_prints, crate::proofs::Printing::signed_back))]
 pub fn write_signed(base: u16, value: u16, out: &mut [u8])
     requires { (2 ≤ base) × ((base ≤ 36) × (length out.old ≡ length (signed_text base value))) }
     ensures prints { Prints base out.new (signed_value value) }

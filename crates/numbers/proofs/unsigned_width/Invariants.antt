@@ -1,8 +1,10 @@
-use Rattle.numbers.proofs.Printing.{Counted}
+use Rattle.std.proofs.Common.{◌≡◌, ◌+◌}
+use Rattle.numbers.proofs.Printing.{width_of}
 use Rattle.numbers.proofs.unsigned_width.Given as goal
 
+-- the digits counted, and those of the rest
 abbrev pub invariant-loop-rest : goal.invariant-loop-rest
-invariant-loop-rest l = Counted l.base l.value l.width l.rest
+invariant-loop-rest l = l.width + width_of l.base l.rest ≡ width_of l.base l.value + 1
 
 abbrev pub decreases-loop-rest : goal.decreases-loop-rest
 decreases-loop-rest l = l.rest

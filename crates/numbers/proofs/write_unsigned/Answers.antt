@@ -1,14 +1,7 @@
-use Rattle.std.proofs.Common.{◌≡◌, ◌-◌, set, pos, sym, ap, ◌∙◌, subst, arith}
+use Rattle.std.proofs.Common.{◌≡◌, pos, sym, ap, ◌∙◌, subst, arith}
 use Rattle.numbers.specs.Text.{Prints, number_in, unsigned_text}
-use Rattle.numbers.proofs.Printing.{Written, numeral, unsigned_back, written_none, written_more, written_all}
+use Rattle.numbers.proofs.Printing.{numeral, unsigned_back, written_all}
 use Rattle.numbers.proofs.write_unsigned.Goals as goal
-
-pub loop-place-init : goal.loop-place-init
-loop-place-init c = written_none c.args.base c.args.value c.args.out.now c.requires.1.1
-
-pub loop-place-preserved : goal.loop-place-preserved
-loop-place-preserved c =
-    written_more c.args.base c.args.value c.loop-place.out c.loop-place.left c.digit_byte.result c.loop-place.place (omega arith) (omega arith) c.digit_byte.ensures c.loop-place.invariant
 
 pub returns : goal.returns
 returns c =
