@@ -1,6 +1,4 @@
 // Prints what a card holds.
-ghost use Rattle.std.specs.Prelude.{◌≡◌, length};
-
 use fault::Place;
 use std::io;
 use store::Store;
@@ -16,14 +14,12 @@ pub fn list<S: Store>(rt: &HostRuntime, card: &S) -> anyhow::Result<usize> {
     Ok(used)
 }
 
-fn list_block(rt: &HostRuntime, n: u16, block: &[u8]) -> io::Result<usize>
-    requires { length block.now ≡ 1024 }
-{
+fn list_block(rt: &HostRuntime, n: u16, block: &[u8; 1024]) -> io::Result<usize> {
     let lines = kits::used_lines(block);
-    let length = kits::cut_length(&block[0..64]);
+    let length = kits::cut_length(&block[..64]);
     print!(rt; "block {n}: ")?;
-    for byte in &block[0..length] {
-        rt.print(shown(*byte))?;
+    for &byte in &block[..length] {
+        rt.print(shown(byte))?;
     }
     println!(rt; "  [{lines} lines]")?;
     Ok(lines)
@@ -31,9 +27,8 @@ fn list_block(rt: &HostRuntime, n: u16, block: &[u8]) -> io::Result<usize>
 
 // A printing character as it is, any other byte as a point.
 fn shown(byte: u8) -> char {
-    if byte >= 32 && byte < 127 {
-        char::from(byte)
-    } else {
-        '.'
+    match byte {
+        b' '..=b'~' => char::from(byte),
+        _ => '.',
     }
 }

@@ -5,7 +5,7 @@
 mod listing;
 mod words;
 
-use anyhow::anyhow;
+use anyhow::{Context, bail};
 use kits::KitRefused;
 use std::{env, fs};
 use store::{MemoryCard, Store};
@@ -14,26 +14,18 @@ use text_card::TextCard;
 const USAGE: &str = "usage: cardview KIT CARD [words], or cardview words";
 
 fn main(rt: HostRuntime) -> anyhow::Result<()> {
-    run(&rt)
-}
-
-fn run(rt: &HostRuntime) -> anyhow::Result<()> {
-    let mut args = env::args(rt)?;
-    let _program = args.next();
-    let Some(first) = args.next() else {
-        return Err(anyhow!(USAGE));
-    };
+    let rt = &rt;
+    let mut args = env::args(rt)?.skip(1);
+    let first = args.next().context(USAGE)?;
     if first.as_str() == "words" {
         return words::list_booted(rt);
     }
-    let Some(card) = args.next() else {
-        return Err(anyhow!(USAGE));
-    };
+    let card = args.next().context(USAGE)?;
     put(rt, first.as_str(), card.as_str())?;
-    match args.next() {
-        Some(_words) => words::list_booted(rt),
-        None => Ok(()),
+    if args.next().is_some() {
+        words::list_booted(rt)?;
     }
+    Ok(())
 }
 
 // Puts the kit in one file on the card in another.
@@ -43,13 +35,13 @@ fn put(rt: &HostRuntime, kit_file: &str, card_file: &str) -> anyhow::Result<()> 
         return Err(refused.into());
     }
     let kit = TextCard::new(rt.alloc(), text.as_slice())?;
-    let mut bytes = vec![in rt.alloc(); 0u8; kit.count() as usize * 1024]?;
+    let mut bytes = vec![in rt.alloc(); 0u8; usize::from(kit.count()) * 1024]?;
     let blocks = kits::copy_card(&kit, &mut MemoryCard::new(bytes.as_mut_slice()))?;
     fs::write(rt, card_file, bytes.as_slice())?;
     let mut written = fs::read(rt, card_file)?;
     let card = MemoryCard::new(written.as_mut_slice());
     if kits::first_difference(&kit, &card)?.is_some() || card.count() != kit.count() {
-        return Err(anyhow!("the card does not hold what was written"));
+        bail!("the card does not hold what was written");
     }
     let lines = listing::list(rt, &card)?;
     println!(rt;

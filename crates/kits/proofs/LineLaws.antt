@@ -1,6 +1,10 @@
 -- Laws of blank and used lines.
-use Rattle.std.proofs.Common.{◌≡◌, ℕ, zero, suc, ◌+◌, ◌-◌, ◌*◌, ◌<◌, Bool, true, false, cond, not, ◌&&◌, eqb, ltb, List, [], ◌∷◌, length, get_or, take, drop, Decides, MatchBool, sym, refl, ap, ◌∙◌, add-one, arith, eq-eqb}
+use Rattle.std.proofs.Common.{◌≡◌, ℕ, zero, suc, ◌+◌, ◌*◌, ◌<◌, true, false, cond, not, ◌&&◌, eqb, ltb, List, [], ◌∷◌, length, get_or, take, drop, sym, refl, ap, ◌∙◌, arith, eq-eqb}
 use Rattle.std.proofs.lemmas.Bool.Decides.{nat_tests}
+use Rattle.std.proofs.lemmas.List.{drop-drop}
+use Rattle.std.proofs.lemmas.List.Sums.{sum_by-cons}
+use Rattle.std.specs.Simd.{first_chunks}
+use Rattle.std.specs.List.{count_by}
 use Rattle.kits.specs.Listing.{all_blank, line_at, used_lines, CutTo}
 
 all_blank_lem : (bytes : List ℕ) → ((k : ℕ) → k < length bytes → get_or bytes k 0 ≡ 32) → all_blank bytes ≡ true
@@ -25,18 +29,20 @@ used_if_cut bytes (suc n) h =
     let t : ltb 0 (suc n) ≡ true = grind (arith, nat_tests) in
     t ∙ sym (ap not r)
 
-pub used_more : (k used : ℕ) (bytes : List ℕ) (b : Bool) → used ≡ used_lines k bytes → b ≡ not (all_blank (take (64 * k + 64 - 64 * k) (drop (64 * k) bytes))) → used + cond b 1 0 ≡ used_lines (k + 1) bytes
+-- how many lines are used, from the first on
+used_front : (n : ℕ) (bytes : List ℕ) → used_lines (suc n) bytes ≡ cond (all_blank (take 64 bytes)) 0 1 + used_lines n (drop 64 bytes)
 unfolding used_lines
-used_more k used bytes b e h =
-    let n : 64 * k + 64 - 64 * k ≡ 64 = omega arith in
-    let h' : b ≡ not (all_blank (line_at k bytes)) = h ∙ ap (λ m. not (all_blank (take m (drop (64 * k) bytes)))) n in
-    rw add-one (ap (λ u. u + cond b 1 0) e ∙ ap (λ v. used_lines k bytes + cond v 1 0) h' ∙ ap (λ v. used_lines k bytes + v) (turned (all_blank (line_at k bytes))))
-  where
-    turned : (v : Bool) → ◌≡◌ {A = ℕ} (cond (not v) 1 0) (cond v 0 1)
-    turned true = refl
-    turned false = refl
+used_front zero bytes = omega arith
+used_front (suc n) bytes =
+    let e : 64 * suc n ≡ 64 + 64 * n = omega arith in
+    let line : line_at (suc n) bytes ≡ line_at n (drop 64 bytes) = ap (λ k. take 64 (drop k bytes)) e ∙ ap (take 64) (sym (drop-drop (64 * n) 64 bytes)) in
+    rw line (omega (arith, used_front n bytes))
 
--- two blocks read are the same exactly when the blocks are
-pub same_read : (one other a b : List ℕ) (r : Bool) → one ≡ a → other ≡ b → Decides r (one ≡ other) → MatchBool r (a ≡ b) (a ≡ b → ⊥)
-same_read one other a b true p q d = sym p ∙ d.0 refl ∙ q
-same_read one other a b false p q d = λ e. let z : false ≡ true = d.1 (p ∙ e ∙ sym q) in let n : ◌≡◌ {A = ℕ} 0 1 = cc in omega arith
+pub used_of_lines : (n : ℕ) (bytes : List ℕ) → count_by (λ line. not (all_blank line)) (first_chunks 64 n bytes) ≡ used_lines n bytes
+unfolding used_lines
+used_of_lines zero bytes = refl
+used_of_lines (suc n) bytes =
+    let line : ◌≡◌ {A = ℕ} (cond (not (all_blank (take 64 bytes))) 1 0) (cond (all_blank (take 64 bytes)) 0 1) =
+    elim (all_blank (take 64 bytes)) as (λ v. ◌≡◌ {A = ℕ} (cond (not v) 1 0) (cond v 0 1)) [ true ↦ refl | false ↦ refl ] in
+    sum_by-cons (λ line. cond (not (all_blank line)) 1 0) (take 64 bytes) (first_chunks 64 n (drop 64 bytes))
+    ∙ omega (arith, line, used_of_lines n (drop 64 bytes), used_front n bytes)

@@ -21,30 +21,27 @@ impl KitRefused {
     pub fn of(text: &[u8]) -> Option<KitRefused>
         ensures { MatchOption result (is_text_card text.now ≡ true) (λ k. (is_text_card text.now ≡ false) × (k.fault ≡ fault_of WrongLength (place_of 0 0 0)) × FirstLongLine text.now k.line) }
     {
-        match TextCard::query(text) {
-            Ok(()) => None,
-            Err(fault) => Some(KitRefused {
-                fault,
-                line: text_card::first_long_line(text),
-            }),
-        }
+        let fault = TextCard::query(text).err()?;
+        Some(KitRefused {
+            fault,
+            line: text_card::first_long_line(text),
+        })
     }
 }
 
 impl fmt::Display for KitRefused {
     fn fmt<W: fmt::Write>(&self, f: &mut fmt::Formatter<W>) -> fmt::Result {
-        let fault = self.fault;
         match self.line {
-            Some(index) => {
-                let line = index.saturating_add(1);
-                write!(
-                    f,
-                    "kit refused, nothing written: line {line} has more than 64 bytes; {fault}"
-                )
-            }
+            Some(index) => write!(
+                f,
+                "kit refused, nothing written: line {} has more than 64 bytes; {}",
+                index.saturating_add(1),
+                self.fault
+            ),
             None => write!(
                 f,
-                "kit refused, nothing written: more than 65535 blocks; {fault}"
+                "kit refused, nothing written: more than 65535 blocks; {}",
+                self.fault
             ),
         }
     }
