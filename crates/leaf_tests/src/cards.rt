@@ -16,11 +16,8 @@ const TOLD: Place = Place {
 fn number(answer: Result<(), Fault>) -> u8 {
     match answer {
         Ok(()) => 0,
-        Err(fault) => if fault.place == TOLD {
-            fault.number()
-        } else {
-            100
-        },
+        Err(fault) if fault.place == TOLD => fault.number(),
+        Err(_) => 100,
     }
 }
 
@@ -29,7 +26,7 @@ fn written<S: Store>(store: &mut S, n: u16, block: u16, i: usize) -> (u8, u8) {
     let answer = number(store.write(n, &[1u8; 1024], TOLD));
     let mut bytes = [7u8; 1024];
     let _ = store.read(block, &mut bytes, Place::nowhere());
-    (answer, if i < 1024 { bytes[i] } else { 0 })
+    (answer, bytes.get(i).copied().unwrap_or(0))
 }
 
 fn memory_card(length: usize, n: u16) -> (u8, u8) {
@@ -37,7 +34,7 @@ fn memory_card(length: usize, n: u16) -> (u8, u8) {
     if length > 2048 {
         return (0, 0);
     }
-    written(&mut MemoryCard::new(&mut zeros[0..length]), n, 1, 0)
+    written(&mut MemoryCard::new(&mut zeros[..length]), n, 1, 0)
 }
 
 fn switched_card(locked: bool, n: u16) -> (u8, u8) {

@@ -1,6 +1,7 @@
 // Tables of numbers divided, read and printed.
 use numbers::{
-    divide, divide_product, read_number, signed_width, unsigned_width, write_signed, write_unsigned,
+    divide, divide_product, is_base, read_number, signed_width, unsigned_width, write_signed,
+    write_unsigned,
 };
 use std::process::Abort;
 
@@ -82,17 +83,17 @@ fn divides(rt: HostRuntime) {
 }
 
 fn prints_signed(rt: &impl Abort, base: u16, value: u16, text: &[u8]) {
-    assert!(rt; base >= 2 && base <= 36);
+    assert!(rt; is_base(base));
     let mut bytes = [0; 17];
-    let out = &mut bytes[0..signed_width(base, value)];
+    let out = &mut bytes[..signed_width(base, value)];
     write_signed(base, value, out);
     assert!(rt; *out == *text);
 }
 
 fn prints_unsigned(rt: &impl Abort, base: u16, value: u16, text: &[u8]) {
-    assert!(rt; base >= 2 && base <= 36);
+    assert!(rt; is_base(base));
     let mut bytes = [0; 16];
-    let out = &mut bytes[0..unsigned_width(base, value)];
+    let out = &mut bytes[..unsigned_width(base, value)];
     write_unsigned(base, value, out);
     assert!(rt; *out == *text);
 }

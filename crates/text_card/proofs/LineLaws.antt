@@ -1,7 +1,11 @@
 -- Laws of the lines of a text, taken one by one from its front.
-use Rattle.std.proofs.Common.{◌≡◌, ℕ, zero, suc, ◌+◌, ◌-◌, ◌<◌, ◌≤◌, true, false, cond, eqb, leb, List, [], ◌∷◌, length, get_or, drop, sym, refl, ap, ◌∙◌, inl, inr, arith}
-use Rattle.std.proofs.lemmas.List.{drop-drop, get_or-drop, get_or_past, length-drop, nil_from_length}
-use Rattle.std.proofs.lemmas.Bool.{and_from, and_left, and_right, cases_lt, le-leb, lt-leb}
+use Rattle.std.proofs.Common.{◌≡◌, ℕ, suc, ◌<◌, ◌≤◌, true, false, cond, ◌&&◌, eqb, leb, ltb, List, [], ◌∷◌, length, get_or, Option, refl, ap, ⊎_elim, ltb-false, ltb-true, arith}
+use Rattle.std.proofs.lemmas.List.{get_or_past, nil_from_length}
+use Rattle.std.proofs.lemmas.List.Sums.{fails_before_first, passes_at_first}
+use Rattle.std.proofs.lemmas.Bool.{cases_lt}
+use Rattle.std.proofs.lemmas.Bool.Decides.{leb_tells}
+use Rattle.std.specs.List.{list_all, position, position_or_len}
+use Rattle.text_card.specs.Lines.{FirstLongLine}
 use Rattle.text_card.specs.Texts.{all_fit, before, lines_of}
 use Rattle.text_card.specs.Cutting.{behind_first, first_line}
 
@@ -17,57 +21,42 @@ lines_step (b ∷ (d ∷ text)) h =
     elim (eqb b 10) as (λ e. cond e ([] ∷ lines_of (d ∷ text)) (before b (lines_of (d ∷ text))) ≡ cond e [] (b ∷ first_line (d ∷ text)) ∷ lines_of (cond e (d ∷ text) (behind_first (d ∷ text))))
     [ true ↦ refl | false ↦ ap (before b) i ]
 
--- and what is behind it is shorter
-pub behind_shorter : (text : List ℕ) → 0 < length text → length (behind_first text) < length text
-behind_shorter [] h = absurd (omega arith)
-behind_shorter (b ∷ []) h =
-    elim (eqb b 10) as (λ e. length (cond e [] (behind_first [])) < 1) [ true ↦ omega arith | false ↦ omega arith ]
-behind_shorter (b ∷ (d ∷ text)) h =
-    let i : length (behind_first (d ∷ text)) < length (d ∷ text) = behind_shorter (d ∷ text) (omega arith) in
-    elim (eqb b 10) as (λ e. length (cond e (d ∷ text) (behind_first (d ∷ text))) < suc (suc (length text))) [ true ↦ omega arith | false ↦ omega arith ]
-
--- a list from its place p on, taken apart
-pub at_place : {X : Type 0} (xs ys : List X) (x d : X) (p : ℕ) → drop p xs ≡ x ∷ ys
-    → (p < length xs) × (get_or xs p d ≡ x) × (drop (p + 1) xs ≡ ys)
-at_place xs ys x d p e =
-    let l : length (drop p xs) ≡ suc (length ys) = ap length e in
-    let l' : length xs - p ≡ suc (length ys) = sym (length-drop p xs) ∙ l in
-    let z : p + 0 ≡ p = omega arith in
-    (omega arith, ap (λ i. get_or xs i d) (sym z) ∙ sym (get_or-drop p xs 0 d) ∙ ap (λ l. get_or l 0 d) e, sym (drop-drop 1 p xs) ∙ ap (drop 1) e)
-
--- the lines left, one line on
-pub next_line : (text rest : List ℕ) (p : ℕ) → lines_of rest ≡ drop p (lines_of text) → 0 < length rest
-    → (p < length (lines_of text)) × (get_or (lines_of text) p [] ≡ first_line rest) × (drop (p + 1) (lines_of text) ≡ lines_of (behind_first rest))
-next_line text rest p e h = at_place (lines_of text) (lines_of (behind_first rest)) (first_line rest) [] p (sym e ∙ lines_step rest h)
-
 -- no lines are left of an empty text
 pub lines_none : (rest : List ℕ) → length rest ≡ 0 → lines_of rest ≡ []
 unfolding lines_of
 lines_none rest h = ap lines_of (nil_from_length rest h)
 
-pub none_left : (text rest : List ℕ) (p : ℕ) → lines_of rest ≡ drop p (lines_of text) → length rest ≡ 0 → length (lines_of text) ≤ p
-none_left text rest p e h =
-    let l : 0 ≡ length (lines_of text) - p = ap length (sym (lines_none rest h) ∙ e) ∙ length-drop p (lines_of text) in
-    omega arith
+-- a text has no more lines than bytes
+before_few : (b : ℕ) (lines : List (List ℕ)) → length (before b lines) ≤ suc (length lines)
+before_few b [] = omega arith
+before_few b (line ∷ lines) = omega arith
+
+pub few_lines : (text : List ℕ) → length (lines_of text) ≤ length text
+unfolding lines_of
+few_lines [] = omega arith
+few_lines (b ∷ text) =
+    let i = few_lines text in
+    elim (eqb b 10) as (λ e. length (cond e ([] ∷ lines_of text) (before b (lines_of text))) ≤ suc (length text))
+    [ true ↦ omega arith | false ↦ omega (arith, before_few b (lines_of text)) ]
 
 -- each line fits where each line up to the last does
-pub all_short : (lines : List (List ℕ)) (p : ℕ) → length lines ≤ p → ((k : ℕ) → k < p → length (get_or lines k []) ≤ 64) → (k : ℕ) → length (get_or lines k []) ≤ 64
+all_short : (lines : List (List ℕ)) (p : ℕ) → length lines ≤ p → ((k : ℕ) → k < p → length (get_or lines k []) ≤ 64) → (k : ℕ) → length (get_or lines k []) ≤ 64
 all_short lines p h short k =
-    elim (cases_lt k p) as (λ _. length (get_or lines k []) ≤ 64) [
-      | inl l ↦ short k l
-      | inr l ↦
-          (let h' : length lines ≤ k = omega arith in
-          let e : length (get_or lines k []) ≡ 0 = ap length (get_or_past lines k [] h') in
-          omega arith)
-    ]
+    ⊎_elim (λ l. short k l) (λ l. let e : length (get_or lines k []) ≡ 0 = ap length (get_or_past lines k [] (omega arith)) in omega arith) (cases_lt k p)
 
--- the answer to whether each line fits, from the lines by their places
-pub fits_from : (lines : List (List ℕ)) → ((k : ℕ) → length (get_or lines k []) ≤ 64) → all_fit lines ≡ true
-fits_from [] short = refl
-fits_from (line ∷ lines) short =
-    and_from (leb (length line) 64) (all_fit lines) (le-leb (length line) 64 (short 0)) (fits_from lines (λ k. short (suc k)))
+-- the first line that is too long, by the first place at which the test passes
+pub first_long : (text : List ℕ) (r : Option ℕ) → r ≡ position (λ line. ltb 64 (length line)) (lines_of text) → FirstLongLine text r
+first_long text r e =
+    let lines = lines_of text in
+    let p = λ (line : List ℕ). ltb 64 (length line) in
+    let k = position_or_len p lines in
+    let short : (j : ℕ) → j < k → length (get_or lines j []) ≤ 64 = λ j h. ltb-false 64 (length (get_or lines j [])) (fails_before_first p lines j [] h) in
+    ⊎_elim
+    (λ y. rw (e, y.0) (y.1, ltb-true 64 (length (get_or lines k [])) (passes_at_first p lines [] y.1), short))
+    (λ y. rw (e, y.0) (all_short lines k (omega (arith, y.1)) short))
+    (leb_tells (suc k) (length lines))
 
-pub fits_not : (lines : List (List ℕ)) (i : ℕ) → i < length lines → 64 < length (get_or lines i []) → all_fit lines ≡ false
-fits_not [] i h l = absurd (omega arith)
-fits_not (line ∷ lines) zero h l = and_left (leb (length line) 64) (all_fit lines) (lt-leb (length line) 64 l)
-fits_not (line ∷ lines) (suc i) h l = and_right (leb (length line) 64) (all_fit lines) (fits_not lines i (omega arith) l)
+-- each line fits where the test passes on all
+pub fits_all : (lines : List (List ℕ)) → list_all (λ line. leb (length line) 64) lines ≡ all_fit lines
+fits_all [] = refl
+fits_all (line ∷ lines) = ap (λ b. leb (length line) 64 && b) (fits_all lines)

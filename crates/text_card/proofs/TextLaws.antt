@@ -1,36 +1,10 @@
 -- Laws of lines laid out in blocks.
 use Rattle.std.proofs.Common.{◌≡◌, ℕ, zero, suc, ◌+◌, ◌-◌, ◌*◌, ◌/◌, ◌%◌, ◌<◌, ◌≤◌, true, false, eqb, leb, List, [], ◌∷◌, ◌++◌, length, get_or, take, drop, replicate, sym, refl, ap, ◌∙◌, inl, inr, arith, leb-true}
-use Rattle.std.proofs.lemmas.List.{append_assoc, append-nil, drop_at, drop-drop, drop-replicate, drop-take, length-append, length-replicate, replicate_more, take_at, take-replicate, take-take}
+use Rattle.std.proofs.lemmas.List.{append_assoc, drop_at, drop-drop, drop-replicate, drop-take, length-append, length-replicate, take_at, take-replicate, take-take}
 use Rattle.std.proofs.lemmas.Bool.{and_from, and_parts, cond-true, cases_Bool, cond-false, eq-eqb, le-leb}
 use Rattle.store.specs.Cards.{blocks_of, card_of, is_whole, read_only_card, whole_blocks}
 use Rattle.text_card.specs.Texts.{LinesInBlocks, all_fit, blocks_for, is_text_card, laid_out, lines_of, padded, text_blocks, text_card}
 use Rattle.store.specs.Soundness.{get_or-blocks_of}
-use Rattle.text_card.specs.Cutting.{behind_first, first_line}
-use Rattle.text_card.proofs.LineLaws.{lines_none, lines_step}
-
--- one blank more
-pub blanks_more : (old was now : List ℕ) (n : ℕ) → was ≡ old ++ replicate n 32 → now ≡ was ++ 32 ∷ [] → now ≡ old ++ replicate (n + 1) 32
-blanks_more old was now n e s =
-    s ∙ ap (λ l. l ++ 32 ∷ []) e ∙ append_assoc old (replicate n 32) (32 ∷ []) ∙ ap (λ l. old ++ l) (replicate_more n 32)
-
--- a line and the blanks behind it
-pub line_added : (old line was now : List ℕ) (n : ℕ) → was ≡ old ++ line → n ≡ 64 - length line → now ≡ was ++ replicate n 32 → now ≡ old ++ padded 64 line
-line_added old line was now n e s h =
-    h ∙ ap (λ l. l ++ replicate n 32) e ∙ append_assoc old line (replicate n 32) ∙ ap (λ k. old ++ (line ++ replicate k 32)) s
-
--- one line more is laid out
-pub laid_more : (text rest line rest' old new : List ℕ) → old ++ laid_out (lines_of rest) ≡ laid_out (lines_of text) → 0 < length rest
-    → line ≡ first_line rest → rest' ≡ behind_first rest → new ≡ old ++ padded 64 line → new ++ laid_out (lines_of rest') ≡ laid_out (lines_of text)
-laid_more text rest line rest' old new inv h l r e =
-    ap (λ n. n ++ laid_out (lines_of rest')) e
-    ∙ append_assoc old (padded 64 line) (laid_out (lines_of rest'))
-    ∙ ap (λ p. old ++ (padded 64 p ++ laid_out (lines_of rest'))) l
-    ∙ ap (λ p. old ++ (padded 64 (first_line rest) ++ laid_out (lines_of p))) r
-    ∙ ap (λ p. old ++ laid_out p) (sym (lines_step rest h))
-    ∙ inv
-
-pub laid_all : (text rest bytes : List ℕ) → bytes ++ laid_out (lines_of rest) ≡ laid_out (lines_of text) → length rest ≡ 0 → bytes ≡ laid_out (lines_of text)
-laid_all text rest bytes inv h = sym (append-nil bytes) ∙ ap (λ p. bytes ++ laid_out p) (sym (lines_none rest h)) ∙ inv
 
 pub length-padded : (n : ℕ) (bytes : List ℕ) → length bytes ≤ n → length (padded n bytes) ≡ n
 length-padded n bytes h = simp (length-append, length-replicate) (omega arith)

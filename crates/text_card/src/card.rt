@@ -1,4 +1,4 @@
-ghost use Rattle.std.specs.Prelude.{◌≡◌, ◌-◌, ◌*◌, ◌^◌, ◌<◌, true, false, ◌++◌, length, replicate, IfOk, MatchOption, MatchResult, OnOk};
+ghost use Rattle.std.specs.Prelude.{◌≡◌, ◌*◌, true, false, ◌++◌, length, IfOk, MatchOption, MatchResult, OnOk};
 ghost use Rattle.fault.specs.Numbers.{fault_of, place_of};
 ghost use Rattle.fault.specs.declared.Reason.TheVariants.{WrongLength};
 ghost use Rattle.store.specs.Cards.{read_only_card};
@@ -6,27 +6,23 @@ ghost use Rattle.text_card.specs.Texts.{LinesInBlocks, all_fit, blocks_for, is_t
 ghost use Rattle.text_card.specs.Lines.{LinesAreTheText};
 ghost use Rattle.store.specs.Soundness.{card_sound};
 
-use super::lines::{behind_first, count_lines, first_line, first_long_line};
+use super::lines::Lines;
 use fault::{Fault, Place, Reason};
 use std::alloc::{AllocError, Global};
 use store::{Store, count_blocks, read_block};
 
-// How many blocks so many lines take.
-fn blocks_for(lines: usize) -> usize
-    requires { lines < 2 ^ 63 }
-    ensures { result ≡ blocks_for lines }
+// How many lines a text has.
+fn count_lines(text: &[u8]) -> usize
+    ensures { result ≡ length (lines_of text.now) }
 {
-    (lines + 15) / 16
+    Lines { rest: text }.count()
 }
 
 // Is each line at most 64 bytes?
 fn lines_fit(text: &[u8]) -> bool
     ensures { result ≡ all_fit (lines_of text.now) }
 {
-    match first_long_line(text) {
-        Some(_) => false,
-        None => true,
-    }
+    Lines { rest: text }.all(|line| line.len() <= 64)
 }
 
 // How many blocks a text takes, or nothing where a line is above 64 bytes or the blocks are above 65,535.
@@ -36,37 +32,23 @@ fn card_blocks(text: &[u8]) -> Option<u16>
     if !lines_fit(text) {
         return None;
     }
-    let blocks = blocks_for(count_lines(text));
-    if blocks > 65535 {
-        return None;
-    }
-    Some(blocks as u16)
+    u16::try_from(count_lines(text).div_ceil(16)).ok()
 }
 
-// How many blanks stand behind n bytes to fill up to `full`.
-fn missing(n: usize, full: usize) -> usize
-    ensures { result ≡ full - n }
+// Adds blanks up to so many bytes.
+fn pad(bytes: &mut Vec<u8>, full: usize) -> Result<(), AllocError>
+    ensures { OnOk result (bytes.new.items ≡ padded full bytes.old.items) }
 {
-    full.saturating_sub(n)
-}
-
-// Adds so many blanks.
-fn add_blanks(bytes: &mut Vec<u8>, count: usize) -> Result<(), AllocError>
-    ensures { OnOk result (bytes.new.items ≡ bytes.old.items ++ replicate count 32) }
-{
-    for _added in 0..count {
-        bytes.push(32)?;
-    }
-    Ok(())
+    bytes.resize(bytes.len().max(full), b' ')
 }
 
 // Adds a line, padded to 64 bytes.
 fn add_line(bytes: &mut Vec<u8>, line: &[u8]) -> Result<(), AllocError>
     ensures { OnOk result (bytes.new.items ≡ bytes.old.items ++ padded 64 line.now) }
 {
+    let full = bytes.len() + 64;
     bytes.extend_from_slice(line)?;
-    add_blanks(bytes, missing(line.len(), 64))?;
-    Ok(())
+    pad(bytes, full)
 }
 
 // The lines one behind the other, 64 bytes each.
@@ -74,10 +56,8 @@ fn laid_out(heap: Global, text: &[u8]) -> Result<Vec<u8>, AllocError>
     ensures { IfOk result (λ v. v.items ≡ laid_out (lines_of text.now)) }
 {
     let mut bytes = Vec::new(heap);
-    let mut rest = text;
-    while rest.len() > 0 {
-        add_line(&mut bytes, first_line(rest))?;
-        rest = behind_first(rest);
+    for line in (Lines { rest: text }) {
+        add_line(&mut bytes, line)?;
     }
     Ok(bytes)
 }
@@ -87,8 +67,7 @@ fn filled(heap: Global, text: &[u8], blocks: u16) -> Result<Vec<u8>, AllocError>
     ensures { IfOk result (λ v. v.items ≡ padded (1024 * blocks) (laid_out (lines_of text.now))) }
 {
     let mut bytes = laid_out(heap, text)?;
-    let blanks = missing(bytes.len(), 1024 * blocks as usize);
-    add_blanks(&mut bytes, blanks)?;
+    pad(&mut bytes, 1024 * usize::from(blocks))?;
     Ok(bytes)
 }
 

@@ -1,72 +1,65 @@
-// The lines of a text: cutting, counting and the first that is too long.
-ghost use Rattle.std.specs.Prelude.{◌≡◌, ◌≤◌, length, nat_lt};
-ghost use Rattle.text_card.specs.Texts.{lines_of};
+// The lines of a text, one by one, and the first that is too long.
+ghost use Rattle.std.specs.Prelude.{◌≡◌, ◌==◌, length, nat_lt};
+ghost use Rattle.std.specs.List.{position};
 ghost use Rattle.text_card.specs.Cutting.{behind_first, first_line};
 ghost use Rattle.text_card.specs.Lines.{FirstLongLine};
 
-// Has a line of n bytes no room in a block's line?
-fn too_long(n: usize) -> bool
-    ensures { result ≡ nat_lt 64 n }
-{
-    n > 64
+// The lines of a text that are left.
+#[derive(Drop)]
+pub(crate) struct Lines<'a> {
+    pub(crate) rest: &'a [u8],
 }
 
-// How many bytes stand before the first byte 10.
-fn line_length(text: &[u8]) -> usize
-    ensures { (result ≡ length (first_line text.now)) × (result ≤ length text.now) }
-{
-    let mut n = 0;
-    while n < text.len() && text[n] != 10 {
-        n += 1;
-    }
-    n
-}
+impl<'a> Iterator for Lines<'a> {
+    type Item = &'a [u8];
 
-// The first line.
-pub(crate) fn first_line(text: &[u8]) -> &[u8]
-    ensures { result.now ≡ first_line text.now }
-{
-    let n = line_length(text);
-    &text[0..n]
-}
+    ghost use Rattle.std.specs.Iterator.{YieldsFirstRef, item_count};
+    ghost use Rattle.text_card.specs.Texts.{lines_of};
 
-// The text behind the first line and its end.
-pub(crate) fn behind_first(text: &[u8]) -> &[u8]
-    ensures { result.now ≡ behind_first text.now }
-{
-    let n = line_length(text);
-    if n < text.len() {
-        &text[n + 1..]
-    } else {
-        &text[n..]
+    ghost next_gives = { YieldsFirstRef (λ l. lines_of l.rest.now) };
+
+    ghost remaining = { item_count (λ l. lines_of l.rest.now) };
+
+    #[tactic(auto, using(crate::proofs::LineLaws::lines_step, crate::proofs::LineLaws::lines_none))]
+    fn next(&mut self) -> Option<&'a [u8]> {
+        if self.rest.is_empty() {
+            return None;
+        }
+        let (line, rest) = cut(self.rest);
+        self.rest = rest;
+        Some(line)
     }
 }
 
-// How many lines a text has.
-pub(crate) fn count_lines(text: &[u8]) -> usize
-    ensures { (result ≡ length (lines_of text.now)) × (result ≤ length text.now) }
+// Where the first line's end stands.
+fn line_end(text: &[u8]) -> Option<usize>
+    ensures { result ≡ position (λ b. b == 10) text.now }
 {
-    let mut count = 0;
-    let mut rest = text;
-    while rest.len() > 0 {
-        rest = behind_first(rest);
-        count += 1;
+    text.iter().position(|&byte| byte == b'\n')
+}
+
+// The first line, and the text behind it and its end.
+#[tactic(auto, using(crate::proofs::CutLaws::first_to, crate::proofs::CutLaws::behind_from, crate::proofs::CutLaws::all_first, crate::proofs::CutLaws::none_behind))]
+fn cut(text: &[u8]) -> (&[u8], &[u8])
+    ensures line { result.0.now ≡ first_line text.now }
+    ensures rest { result.1.now ≡ behind_first text.now }
+{
+    match line_end(text) {
+        Some(end) => (&text[..end], &text[end + 1..]),
+        None => (text, &[]),
     }
-    count
+}
+
+// Has a block no room for the line?
+fn is_long(line: &[u8]) -> bool
+    ensures { result ≡ nat_lt 64 (length line.now) }
+{
+    line.len() > 64
 }
 
 // The place of the first line above 64 bytes, from 0, or nothing where each line fits.
 pub fn first_long_line(text: &[u8]) -> Option<usize>
     ensures { FirstLongLine text.now result }
 {
-    let mut place = 0;
-    let mut rest = text;
-    while rest.len() > 0 {
-        if too_long(first_line(rest).len()) {
-            return Some(place);
-        }
-        rest = behind_first(rest);
-        place += 1;
-    }
-    None
+    Lines { rest: text }.position(is_long)
 }

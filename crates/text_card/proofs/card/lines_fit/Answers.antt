@@ -1,11 +1,12 @@
-use Rattle.std.proofs.Common.{sym}
+use Rattle.std.proofs.Common.{leb, length, refl, ◌∙◌, rules, tests}
+use Rattle.std.proofs.lemmas.Iterator.Consumers.{YieldsList-from_first}
+use Rattle.std.proofs.lemmas.Iterator.Search.{all_from_yields_List}
 use Rattle.text_card.specs.Texts.{lines_of}
-use Rattle.text_card.proofs.LineLaws.{fits_from, fits_not}
+use Rattle.text_card.proofs.LineLaws.{fits_all}
 use Rattle.text_card.proofs.card.lines_fit.Goals as goal
 
-pub returns-in-Some : goal.returns-in-Some
-returns-in-Some c =
-    sym (fits_not (lines_of c.args.text.now) c.in-Some.field-0 c.in-Some.ensures.0 c.in-Some.ensures.1)
-
-pub returns-in-None : goal.returns-in-None
-returns-in-None c = sym (fits_from (lines_of c.args.text.now) c.in-None.ensures)
+pub returns : goal.returns
+returns c =
+    all_from_yields_List (λ line. leb (length line) 64) c.all.new.self _ _ c.all.ensures.ran
+    (YieldsList-from_first (λ x. x.now) (λ l. lines_of l.rest.now) {s = record { rest = c.args.text }} (lines_of c.args.text.now) refl) (λ x b q k. search (rules, tests))
+    ∙ fits_all (lines_of c.args.text.now)
