@@ -88,6 +88,7 @@ impl Reason {
     fn layer(&self) -> Layer
         ensures { result ≡ layer_of (number_of self.now) }
     {
+        // By number, not by reason: each layer is a range of the numbers, as the definition has it.
         match self.number() {
             1..=3 => Layer::Calls,
             4..=7 => Layer::Text,

@@ -1,4 +1,5 @@
-// Bytes and cells of the lent image. A cell lies low byte first.
+// Bytes and cells of the lent image. A cell lies low byte first. The image is lent at each call, and any length
+// serves: a call asks only that the address lies within.
 #![tactic(auto)]
 
 ghost use Rattle.std.specs.Prelude.{◌≡◌, ◌+◌, ◌<◌, ◌≤◌, length, replicate};

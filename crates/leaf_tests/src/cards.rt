@@ -12,7 +12,7 @@ const TOLD: Place = Place {
     length: 4,
 };
 
-// The number of a refusal at the place told, 0 where there is none.
+// The number of a refusal at the place told, 0 where there is none; plain numbers, as the tables below list them.
 fn number(answer: Result<(), Fault>) -> u8 {
     match answer {
         Ok(()) => 0,

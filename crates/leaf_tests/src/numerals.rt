@@ -82,6 +82,7 @@ fn divides(rt: HostRuntime) {
     }
 }
 
+// One function for both would take the two calls as closures, with their clauses written out: no plainer.
 fn prints_signed(rt: &impl Abort, base: u16, value: u16, text: &[u8]) {
     assert!(rt; is_base(base));
     let mut bytes = [0; 17];

@@ -1,4 +1,5 @@
-// Numbers: divided, read from text and written as text.
+// Numbers: divided, read from text and written as text. A base stays a cell with a clause: callers hold BASE as a
+// cell, and a type of bases would be made and taken apart at each call.
 #![tactic(auto)]
 
 ghost use Rattle.std.specs.Prelude.{◌≡◌, ◌/◌, ◌<◌, ◌≤◌, [], ◌∷◌, length, pos, ◌*ℤ◌, Some};
@@ -38,6 +39,7 @@ fn divide_size(below: bool, dividend: u32, divisor: u16) -> Option<(u16, u16)>
         return None;
     }
     let under = is_negative(divisor);
+    // `as` loses nothing below; a `try_from` would add branches that no number takes.
     if below == under {
         let quotient = dividend / by;
         if quotient > 32767 {

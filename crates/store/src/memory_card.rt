@@ -64,6 +64,7 @@ impl<'a> Store for MemoryCard<'a> {
         if n >= count_blocks(self.bytes.len()) {
             return Err(Fault::new(Reason::NoBlock, at));
         }
+        // A range: of what is written through `as_chunks_mut` the check knows nothing afterwards.
         let start = usize::from(n) * 1024;
         self.bytes[start..start + 1024].copy_from_slice(from);
         Ok(())
