@@ -1,80 +1,74 @@
 // Lists the words of a dictionary, by vocabulary and thread, youngest first.
-ghost use Rattle.std.specs.Prelude.{◌≡◌, ◌+◌, ◌≤◌, length};
+ghost use Rattle.std.specs.Prelude.{◌+◌, ◌≤◌, length};
+ghost use Rattle.entries.specs.Entries.{first_at};
 
-use dictionary::registers::Dictionary;
-use entries::cell;
+use entries::Entries;
 use fault::Place;
 use std::io;
 
 // The words that boot leaves.
 pub fn list_booted(rt: &HostRuntime) -> anyhow::Result<()> {
-    let mut image = vec![in rt.alloc(); 0u8; 65536]?;
-    let d = kernel::boot(image.as_mut_slice());
-    list_vocabularies(rt, image.as_slice(), &d)
+    let mut image = [0; 65536];
+    let d = kernel::boot(&mut image);
+    list_vocabularies(rt, &d.entries(&image), d.names.voclink)
 }
 
 // Every vocabulary on the chain, the youngest first.
-fn list_vocabularies(rt: &HostRuntime, image: &[u8], d: &Dictionary) -> anyhow::Result<()>
-    requires { length image.now ≡ 65536 }
+fn list_vocabularies(rt: &HostRuntime, entries: &Entries<'_>, voclink: u16) -> anyhow::Result<()>
+    requires { length entries.now ≤ 32768 }
 {
-    let dp = d.ends.dp;
+    let dp = entries.end();
     let mut before = dp;
-    let mut link = d.names.voclink;
-    for _vocabulary in 0..dp {
-        let Some(k) = vocabularies::next_vocabulary(dp, before, link, Place::nowhere())? else {
-            break;
-        };
-        list_vocabulary(rt, image, dp, k)?;
+    let mut link = voclink;
+    'chain: while let Some(k) = vocabularies::next_vocabulary(dp, before, link, Place::nowhere())? {
+        list_vocabulary(rt, entries, k - 8)?;
         before = k;
-        link = cell(image, dp, k);
+        link = entries.cell(k);
     }
     Ok(())
 }
 
-// The four threads of the vocabulary with this link.
-fn list_vocabulary(rt: &HostRuntime, image: &[u8], dp: u16, link: u16) -> anyhow::Result<()>
-    requires { (length image.now ≡ 65536) × ((266 ≤ link) × ((link + 2 ≤ dp) × (dp ≤ 32768))) }
+// The four threads of a vocabulary.
+fn list_vocabulary(rt: &HostRuntime, entries: &Entries<'_>, vocabulary: u16) -> anyhow::Result<()>
+    requires { (256 ≤ vocabulary) × ((vocabulary + 8 ≤ length entries.now) × (length entries.now ≤ 32768)) }
 {
-    let heads = link - 8;
-    println!(rt; "vocabulary {heads}")?;
-    for thread in 0..4u16 {
+    println!(rt; "vocabulary {vocabulary}")?;
+    let heads = entries.heads(vocabulary);
+    for (thread, &head) in heads.iter().enumerate() {
         println!(rt; " thread {thread}")?;
-        list_thread(rt, image, dp, cell(image, dp, heads + 2 * thread))?;
+        list_thread(rt, entries, head)?;
     }
     Ok(())
 }
 
 // The entries of a thread from a head down.
-fn list_thread(rt: &HostRuntime, image: &[u8], dp: u16, head: u16) -> anyhow::Result<()>
-    requires { (length image.now ≡ 65536) × (dp ≤ 32768) }
+fn list_thread(rt: &HostRuntime, entries: &Entries<'_>, head: u16) -> anyhow::Result<()>
+    requires { length entries.now ≤ 32768 }
 {
-    let mut before = dp;
+    let mut before = entries.end();
     let mut link = head;
-    for _entry in 0..dp {
-        let Some(e) = entries::next_in_thread(image, dp, before, link, Place::nowhere())? else {
-            break;
-        };
-        list_entry(rt, image, dp, e)?;
+    'thread: while let Some(e) = entries.next_in_thread(before, link, Place::nowhere())? {
+        list_entry(rt, entries, e)?;
         before = e;
-        link = cell(image, dp, e);
+        link = entries.cell(e);
     }
     Ok(())
 }
 
 // The address, number and flag of an entry, and its name.
-fn list_entry(rt: &HostRuntime, image: &[u8], dp: u16, e: u16) -> io::Result<()>
-    requires { (length image.now ≡ 65536) × ((258 ≤ e) × ((e + 40 ≤ 65536) × ((e + 7 ≤ dp) × (dp ≤ 32768)))) }
+#[tactic(auto, unfolding(entries::specs::Entries::first_at))]
+fn list_entry(rt: &HostRuntime, entries: &Entries<'_>, e: u16) -> io::Result<()>
+    requires { (256 ≤ e) × ((first_at entries.now e + 2 ≤ length entries.now) × (length entries.now ≤ 32768)) }
 {
-    let number = image::fetch(image, entries::token_of(image, dp, e) as usize);
-    let flag = if entries::is_immediate(image, dp, e) {
+    let number = entries.cell(entries.token_of(e));
+    let flag = if entries.is_immediate(e) {
         " immediate"
     } else {
         ""
     };
     print!(rt; "  {e:>5} {number:>3} ")?;
-    let start = e as usize + 3;
-    for byte in &image[start..start + entries::name_length(image, dp, e) as usize] {
-        rt.print(char::from(*byte % 128))?;
+    for a in e + 3..entries.token_of(e) {
+        rt.print(char::from(entries.byte(a) % 128))?;
     }
     println!(rt; "{flag}")
 }

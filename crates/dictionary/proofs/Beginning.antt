@@ -1,7 +1,8 @@
 -- Laws of entries that begin and join.
-use Rattle.std.proofs.Common.{◌≡◌, ℕ, ◌+◌, ◌-◌, ◌/◌, ◌%◌, ◌≤◌, Bool, true, false, cond, eqb, leb, List, [], ◌∷◌, ◌++◌, length, take, set, Ok, Err, Result, sym, refl, ap, ◌∙◌, arith}
+use Rattle.std.proofs.Common.{◌≡◌, ℕ, ◌+◌, ◌-◌, ◌/◌, ◌%◌, ◌<◌, ◌≤◌, Bool, true, false, cond, eqb, leb, List, [], ◌∷◌, ◌++◌, length, take, set, Ok, Err, Result, sym, refl, ap, ◌∙◌, subst, arith}
 use Rattle.std.proofs.lemmas.List.{append_assoc, length-set}
 use Rattle.std.proofs.lemmas.Bool.{leb-true, ne_eqb, cond-true, cond-false, false≢true}
+use Rattle.std.proofs.lemmas.Bool.Decides.{nat_tests}
 use Rattle.fault.specs.declared.Fault.{Fault}
 use Rattle.fault.specs.declared.Place.{Place}
 use Rattle.fault.specs.declared.Reason.TheVariants.{DictionaryFull}
@@ -80,7 +81,17 @@ vocabulary_made D E view name k m e l q =
     let n : length E.low ≡ length B.low = ap (λ (d : Dict). length d.low) e ∙ length-set-cell B.low (thread_of (at name 0) B) (next_entry D) in
     ap (λ i. with_voc_link i E) q ∙ ap (λ i. with_voc_link (i - 2) E) (sym l ∙ n) ∙ ap (λ d. with_voc_link (length B.low - 2) d) e
 
+-- its heads and its link, as they are put
+pub heads_put : (n : ℕ) (told : Place) (D E : Dict) (view : ℕ) (name heads : List ℕ) (r : Result (Unit {0}) Fault) → heads ≡ set_cell (zeros 10) 8 D.voc_link
+    → Did (with_room (9 + n + length heads) told D (defined view 0 name 204 heads D)) D r E
+    → Did (with_room (9 + n + 10) told D (defined view 0 name 204 (zeros 8 ++ cell D.voc_link) D)) D r E
+unfolding cell set_cell
+heads_put n told D E view name heads r e h = subst (λ s. Did (with_room (9 + n + length s) told D (defined view 0 name 204 s D)) D r E) e h
+
 -- the open entry given up
+pub kept_below : (dp opened : ℕ) → opened + 3 < dp → kept_end dp opened ≤ dp
+kept_below dp opened h = grind (arith, nat_tests)
+
 pub given_up_lem : (D : Dict) (low : List ℕ) (image : List ℕ) (dp end : ℕ) → length image ≡ 65536 → dp ≤ 65536 → 280 ≤ end → end ≤ dp → D.low ≡ low_of dp image → end ≡ kept_end dp D.opened → low ≡ low_of end image
     → with_opened 0 (with_low low D) ≡ given_up D
 given_up_lem D low image dp end l h b s d e f = ap (λ x. with_opened 0 (with_low x D)) (f ∙ go (eqb D.opened 0) refl)

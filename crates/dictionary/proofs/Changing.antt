@@ -1,13 +1,16 @@
 -- Laws of bytes that are changed in their place.
-use Rattle.std.proofs.Common.{◌≡◌, ℕ, ◌+◌, ◌-◌, ◌<◌, ◌≤◌, List, [], ◌∷◌, ◌++◌, length, take, drop, set, sym, refl, ap, ◌∙◌, arith}
+use Rattle.std.proofs.Common.{◌≡◌, ℕ, ◌+◌, ◌-◌, ◌*◌, ◌/◌, ◌%◌, ◌<◌, ◌≤◌, List, [], ◌∷◌, ◌++◌, length, take, drop, set, sym, refl, ap, ◌∙◌, arith}
 use Rattle.std.proofs.lemmas.List.{length-replicate, drop-take, take-take}
 use lib.Seq.{take-append-add}
+use Rattle.std.specs.Int.Bits.{bit_or, bit_and, or_add_and}
+use Rattle.std.proofs.lemmas.Nat.Bits.{and_pow}
+use Rattle.std.proofs.lemmas.Bool.Decides.{nat_tests}
 use Rattle.image.specs.Cells.{cell, set_cell, zeros}
 use Rattle.image.specs.Writes.{overwritten}
 use Rattle.image.specs.Views.{low_of, CarriedByViews}
 use Rattle.image.proofs.Laws.{length_low, low_within}
 use Rattle.image.proofs.Overwriting.{overwritten_none, overwritten_more, overwritten_cell}
-use Rattle.dictionary.specs.Dict.{Dict, with_low}
+use Rattle.dictionary.specs.Dict.{Dict, marked, with_low}
 
 pub length-cell : (x : ℕ) → length (cell x) ≡ 2
 unfolding cell
@@ -49,3 +52,7 @@ low_cut end dp image b h l =
     cut : take (end - 256) (drop 256 (take dp image)) ≡ take (end - 256) (drop 256 image)
     cut = let f : 256 + (dp - 256) ≡ dp = omega arith in
         ap (λ n. take (end - 256) (drop 256 (take n image))) (sym f) ∙ (ap (take (end - 256)) (drop-take 256 (dp - 256) image) ∙ take-take (end - 256) (dp - 256) (drop 256 image) (omega arith))
+
+-- the bit of an immediate entry
+pub or_is_marked : (count : ℕ) → bit_or count 64 ≡ marked count
+or_is_marked count = let a = or_add_and count 64 in let b : bit_and count 64 ≡ count / 64 % 2 * 64 = and_pow count 6 in grind (arith, nat_tests)

@@ -2,6 +2,7 @@
 use Rattle.std.proofs.Common.{◌≡◌, ℕ, ◌+◌, ◌-◌, ◌/◌, ◌%◌, ◌<◌, ◌≤◌, leb, List, [], ◌∷◌, ◌++◌, length, take, drop, Ok, Err, Result, sym, refl, ap, ◌∙◌, arith}
 use Rattle.std.proofs.lemmas.List.{append_assoc, append-nil, drop-take}
 use Rattle.std.proofs.lemmas.Bool.{le-leb, lt-leb, cond-true, cond-false}
+use Rattle.std.specs.Int.{w16, to_le_bytes}
 use Rattle.fault.specs.declared.Fault.{Fault}
 use Rattle.fault.specs.declared.Place.{Place}
 use Rattle.fault.specs.declared.Reason.TheVariants.{DictionaryFull}
@@ -36,9 +37,9 @@ unfolding high_of
 outside_high here xs ys o = ap (take (here - 32768)) o.above
 
 -- a cell as its two bytes
-pub bytes_of_cell : (x : ℕ) (bytes : List ℕ) → bytes ≡ x % 256 ∷ x / 256 ∷ [] → (bytes ≡ cell x) × (length bytes ≡ 2)
+pub le_bytes_are_cell : (x : ℕ) → x < 65536 → to_le_bytes w16 x ≡ cell x
 unfolding cell
-bytes_of_cell x bytes e = (e, ap length e)
+le_bytes_are_cell x h = let e : x / 256 % 256 ≡ x / 256 = omega arith in ap (λ b. x % 256 ∷ b ∷ []) e
 
 -- APPENDING, one after the other
 pub appended_two : (A B C : Dict) (xs ys zs : List ℕ) → B ≡ appended xs A → C ≡ appended ys B → xs ++ ys ≡ zs → C ≡ appended zs A
@@ -46,10 +47,6 @@ appended_two A B C xs ys zs p q r = let e = append_assoc A.low xs ys in cc
 
 pub appended_none : (D : Dict) → D ≡ appended [] D
 appended_none D = ap (λ l. with_low l D) (sym (append-nil D.low))
-
--- bytes appended by the list alone
-pub appended_low : (D : Dict) (low bytes : List ℕ) → low ≡ D.low ++ bytes → with_low low D ≡ appended bytes D
-appended_low D low bytes e = ap (λ l. with_low l D) e
 
 -- SPACE, given or refused
 pub refused : (n : ℕ) (told : Place) (dp : ℕ) (D E : Dict) (r : Result (Unit {0}) Fault) (y : Fault) → length D.low ≡ dp → r ≡ Err y → y ≡ fault_of DictionaryFull told → 32768 < dp + n → Did (with_room n told D E) D r D

@@ -6,44 +6,37 @@ ghost use Rattle.dictionary.specs.Lent.{Changed, Outside, dict_of};
 ghost use Rattle.entries.specs.Entries.{first_at};
 ghost use Rattle.image.specs.Views.{low_of};
 
+use super::code;
 use super::registers::Dictionary;
-use entries::{byte, first_parameter};
-
-// The count byte of an immediate entry.
-fn with_immediate(count: u8) -> u8
-    ensures { result ≡ marked count }
-{
-    if count % 128 < 64 { count + 64 } else { count }
-}
+use entries::IMMEDIATE;
 
 impl Dictionary {
     // Writes a cell of the dictionary.
-    pub fn patch(&self, image: &mut [u8], a: u16, x: u16)
-        requires { (length image.old ≡ 65536) × ((256 ≤ a) × (a + 1 < self.now.ends.dp)) }
+    pub fn patch(&self, image: &mut [u8; 65536], a: u16, x: u16)
+        requires { (256 ≤ a) × (a + 1 < self.now.ends.dp) }
         ensures made { dict_of self.now image.new ≡ patched a x (dict_of self.now image.old) }
         ensures rest { Outside image.old image.new }
     {
-        image::store(image, a as usize, x);
+        image::store(image, usize::from(a), x);
     }
 
     // Makes the newest entry immediate.
-    pub fn mark_immediate(&self, image: &mut [u8])
-        requires { (length image.old ≡ 65536) × ((256 ≤ self.now.names.newest) × (self.now.names.newest + 2 < self.now.ends.dp)) }
+    pub fn mark_immediate(&self, image: &mut [u8; 65536])
+        requires { (256 ≤ self.now.names.newest) × (self.now.names.newest + 2 < self.now.ends.dp) }
         ensures made { dict_of self.now image.new ≡ immediate_marked (dict_of self.now image.old) }
         ensures rest { Outside image.old image.new }
     {
-        let a = self.names.newest + 2;
-        image[a as usize] = with_immediate(byte(image, self.ends.dp, a));
+        image[usize::from(self.names.newest) + 2] |= IMMEDIATE;
     }
 
     // Gives the newest entry, a created word, the DOES> code at an address.
-    pub fn set_does(&self, image: &mut [u8], x: u16)
-        requires { (length image.old ≡ 65536) × ((256 ≤ self.now.names.newest) × (first_at (low_of self.now.ends.dp image.old) self.now.names.newest + 4 ≤ self.now.ends.dp)) }
+    pub fn set_does(&self, image: &mut [u8; 65536], x: u16)
+        requires { (256 ≤ self.now.names.newest) × (first_at (low_of self.now.ends.dp image.old) self.now.names.newest + 4 ≤ self.now.ends.dp) }
         ensures made { dict_of self.now image.new ≡ does_set x (dict_of self.now image.old) }
         ensures rest { Outside image.old image.new }
     {
-        let first = first_parameter(image, self.ends.dp, self.names.newest);
-        self.patch(image, first - 2, 205);
+        let first = self.entries(image).first_parameter(self.names.newest);
+        self.patch(image, first - 2, code::DOES);
         self.patch(image, first + 2, x);
     }
 
@@ -51,21 +44,8 @@ impl Dictionary {
     pub fn give_up(&mut self)
         ensures { Changed given_up self.old self.new }
     {
-        let dp = self.given_up_end();
+        self.ends.dp = self.names.kept_end(self.ends.dp);
         self.names.opened = 0;
-        self.ends.dp = dp;
-    }
-
-    // DP without the open entry.
-    fn given_up_end(&self) -> u16
-        ensures end { result ≡ kept_end self.now.ends.dp self.now.names.opened }
-        ensures low { result ≤ self.now.ends.dp }
-    {
-        if self.names.opened == 0 {
-            self.ends.dp
-        } else {
-            self.names.opened - 2
-        }
     }
 
     // Searches that vocabulary first.

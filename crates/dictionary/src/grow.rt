@@ -12,48 +12,40 @@ use super::registers::Dictionary;
 use entries::held_byte;
 use fault::{Fault, Place, Reason};
 
-// The bytes of a cell, low byte first.
-pub(crate) fn cell_bytes(x: u16) -> [u8; 2]
-    ensures { result ≡ x % 256 ∷ x / 256 ∷ [] }
-{
-    [(x % 256) as u8, (x / 256) as u8]
-}
-
 impl Dictionary {
     // Have n bytes more space?
     pub(crate) fn room(&self, n: usize, told: Place) -> Result<(), Fault>
         ensures { MatchResult result (λ _. self.now.ends.dp + n ≤ 32768) (λ f. (32768 < self.now.ends.dp + n) × (f ≡ fault_of DictionaryFull told)) }
     {
-        if n > 32768 - self.ends.dp as usize {
-            Err(Fault::new(Reason::DictionaryFull, told))
-        } else {
-            Ok(())
+        if n > usize::from(32768 - self.ends.dp) {
+            return Err(Fault::new(Reason::DictionaryFull, told));
         }
+        Ok(())
     }
 
     // Puts bytes at DP, which have space.
-    pub(crate) fn put(&mut self, image: &mut [u8], bytes: &[u8])
-        requires { (length image.old ≡ 65536) × (self.old.ends.dp + length bytes.now ≤ 32768) }
+    pub(crate) fn put(&mut self, image: &mut [u8; 65536], bytes: &[u8])
+        requires { self.old.ends.dp + length bytes.now ≤ 32768 }
         ensures made { dict_of self.new image.new ≡ appended bytes.now (dict_of self.old image.old) }
         ensures dp { self.new.ends.dp ≡ self.old.ends.dp + length bytes.now }
         ensures rest { Outside image.old image.new }
     {
-        self.ends.dp = image::append(image, self.ends.dp as usize, bytes) as u16;
+        self.ends.dp = image::append(image, usize::from(self.ends.dp), bytes) as u16;
     }
 
     // Puts a cell.
-    pub(crate) fn put_cell(&mut self, image: &mut [u8], x: u16)
-        requires { (length image.old ≡ 65536) × (self.old.ends.dp + 2 ≤ 32768) }
+    pub(crate) fn put_cell(&mut self, image: &mut [u8; 65536], x: u16)
+        requires { self.old.ends.dp + 2 ≤ 32768 }
         ensures made { dict_of self.new image.new ≡ appended (cell x) (dict_of self.old image.old) }
         ensures dp { self.new.ends.dp ≡ self.old.ends.dp + 2 }
         ensures rest { Outside image.old image.new }
     {
-        self.put(image, &cell_bytes(x));
+        self.put(image, &x.to_le_bytes());
     }
 
     // Puts a name as an entry holds it.
-    pub(crate) fn put_name(&mut self, image: &mut [u8], name: &[u8])
-        requires { (length image.old ≡ 65536) × ((self.old.ends.dp + length name.now ≤ 32768) × (Ascii name.now)) }
+    pub(crate) fn put_name(&mut self, image: &mut [u8; 65536], name: &[u8])
+        requires { (self.old.ends.dp + length name.now ≤ 32768) × (Ascii name.now) }
         ensures made { dict_of self.new image.new ≡ appended (spelled name.now) (dict_of self.old image.old) }
         ensures dp { self.new.ends.dp ≡ self.old.ends.dp + length name.now }
         ensures rest { Outside image.old image.new }
@@ -64,8 +56,12 @@ impl Dictionary {
     }
 
     // Appends bytes.
-    pub fn append(&mut self, image: &mut [u8], bytes: &[u8], told: Place) -> Result<(), Fault>
-        requires { length image.old ≡ 65536 }
+    pub fn append(
+        &mut self,
+        image: &mut [u8; 65536],
+        bytes: &[u8],
+        told: Place,
+    ) -> Result<(), Fault>
         ensures did { Did (with_room (length bytes.now) told (dict_of self.old image.old) (appended bytes.now (dict_of self.old image.old))) (dict_of self.old image.old) result (dict_of self.new image.new) }
         ensures rest { Outside image.old image.new }
     {
@@ -75,8 +71,7 @@ impl Dictionary {
     }
 
     // Appends a cell.
-    pub fn append_cell(&mut self, image: &mut [u8], x: u16, told: Place) -> Result<(), Fault>
-        requires { length image.old ≡ 65536 }
+    pub fn append_cell(&mut self, image: &mut [u8; 65536], x: u16, told: Place) -> Result<(), Fault>
         ensures did { Did (with_room 2 told (dict_of self.old image.old) (appended (cell x) (dict_of self.old image.old))) (dict_of self.old image.old) result (dict_of self.new image.new) }
         ensures rest { Outside image.old image.new }
     {

@@ -2,6 +2,7 @@
 #![tactic(auto)]
 
 mod change;
+pub mod code;
 mod define;
 mod grow;
 mod order;

@@ -1,31 +1,50 @@
 // The dictionary's own registers. All seats share its ends and its names; each seat has a search order of its own.
-ghost use Rattle.std.specs.Prelude.{◌+◌, ◌<◌, ◌≤◌};
+ghost use Rattle.std.specs.Prelude.{◌≡◌, ◌+◌, ◌<◌, ◌≤◌, length};
 ghost use Rattle.dictionary.specs.Kept.{kept_end};
+ghost use Rattle.image.specs.Views.{low_of};
+
+use entries::Entries;
+
+// Where data space begins.
+pub const DATA_SPACE: u16 = 34048;
 
 // Where the dictionary ends (DP) and where data space ends (HERE).
-#[derive(Clone, Copy)]
+#[derive(Clone, Copy, Debug, PartialEq, Eq)]
 pub struct Ends {
     pub dp: u16,
     pub here: u16,
 }
 
 // The newest entry, the youngest vocabulary link (VOC-LINK), and the entry that `:` began, or 0.
-#[derive(Clone, Copy)]
+#[derive(Clone, Copy, Debug, PartialEq, Eq)]
 pub struct Names {
     pub newest: u16,
     pub voclink: u16,
     pub opened: u16,
 }
 
+impl Names {
+    // Where a dictionary that ends at DP ends if the open entry is given up.
+    pub fn kept_end(&self, dp: u16) -> u16
+        ensures { result ≡ kept_end dp self.now.opened }
+    {
+        if self.opened == 0 {
+            dp
+        } else {
+            self.opened.saturating_sub(2)
+        }
+    }
+}
+
 // CONTEXT and CURRENT, each by the address of the vocabulary's first head.
-#[derive(Clone, Copy)]
+#[derive(Clone, Copy, Debug, PartialEq, Eq)]
 pub struct SearchOrder {
     pub context: u16,
     pub current: u16,
 }
 
 // All of them. CONTEXT and CURRENT lie below DP, and below the open entry's beginning, to which DP may go back.
-#[derive(Clone, Copy)]
+#[derive(Clone, Copy, Debug, PartialEq, Eq)]
 pub struct Dictionary {
     pub ends: Ends,
     pub names: Names,
@@ -41,4 +60,14 @@ pub struct Dictionary {
     ghost dp_kept: { 280 ≤ kept_end ends.dp names.opened },
     ghost context_kept: { order.context + 10 ≤ kept_end ends.dp names.opened },
     ghost current_kept: { order.current + 10 ≤ kept_end ends.dp names.opened },
+}
+
+impl Dictionary {
+    // Its entries, in the image that is lent.
+    pub fn entries<'a>(&self, image: &'a [u8; 65536]) -> Entries<'a>
+        ensures bytes { result ≡ low_of self.now.ends.dp image.now }
+        ensures size { length result ≡ self.now.ends.dp }
+    {
+        Entries::new(image, self.ends.dp)
+    }
 }

@@ -2,7 +2,12 @@
 use Rattle.std.proofs.Common.{◌≡◌, ℕ, zero, suc, ◌+◌, ◌<◌, ◌≤◌, true, false, List, [], ◌∷◌, length, get_or, drop, refl, ap, ◌∙◌, arith}
 use Rattle.std.proofs.lemmas.List.{at_drop_more, at_drop_all}
 use Rattle.std.proofs.lemmas.Bool.{eq-eqb, ne_eqb}
+use Rattle.std.proofs.lemmas.Bool.Decides.{nat_tests}
+use Rattle.std.specs.Char.{to_ascii_uppercase}
 use Rattle.entries.specs.Entries.{capital, spelled, bytes_are, is_named, name_length}
+
+pub upper_is_capital : (b : ℕ) → to_ascii_uppercase b ≡ capital b
+upper_is_capital b = grind (arith, nat_tests)
 
 pub length-spelled : (name : List ℕ) → length (spelled name) ≡ length name
 length-spelled [] = refl
@@ -47,3 +52,6 @@ named_other low e name h = rw (ne_eqb (name_length low e) (length name) h, is_na
 
 pub named_bytes : (low : List ℕ) (e : ℕ) (name : List ℕ) → name_length low e ≡ length name → is_named low e name ≡ bytes_are low (e + 3) name
 named_bytes low e name h = rw (eq-eqb (name_length low e) (length name) h, is_named) refl
+
+-- the byte at a place
+pub ruleset spelling = (upper_is_capital, spelled_last, spelled_inner)

@@ -1,12 +1,12 @@
 -- Laws of a walk down a thread.
-use Rattle.std.proofs.Common.{◌≡◌, ℕ, zero, suc, ◌+◌, ◌*◌, ◌%◌, ◌<◌, ◌≤◌, Bool, true, false, cond, ◌&&◌, eqb, ltb, leb, ◌≢◌, ◌⊎◌, List, length, Some, None, Ok, Err, Option, Result, sym, refl, ap, ◌∙◌, subst, inl, inr, arith}
+use Rattle.std.proofs.Common.{◌≡◌, ℕ, zero, suc, ◌+◌, ◌<◌, ◌≤◌, Bool, true, false, cond, ◌&&◌, eqb, ltb, leb, ◌≢◌, ◌⊎◌, List, length, Some, None, Ok, Err, Option, Result, sym, refl, ◌∙◌, subst, inl, inr, arith}
 use Rattle.std.proofs.lemmas.Bool.{eqb-true, eqb-false, eq-eqb, ne_eqb, ltb-true, leb-true, lt-ltb, le-leb, and_parts, and_from, cases_lt, false≢true}
 use Rattle.fault.specs.declared.Fault.{Fault}
 use Rattle.fault.specs.declared.Place.{Place}
-use Rattle.image.specs.Cells.{at, cell_at}
-use Rattle.entries.specs.Entries.{head_at, spelled, first_at, is_named}
-use Rattle.entries.specs.Search.{Found, missing, broken, hit, in_order, walk, search_in}
-use Rattle.entries.specs.Threads.{Walk, stop, next, Youngest, FindsYoungest, answered, linked}
+use Rattle.image.specs.Cells.{cell_at}
+use Rattle.entries.specs.Entries.{first_at, is_named}
+use Rattle.entries.specs.Search.{Found, missing, broken, hit, in_order, walk}
+use Rattle.entries.specs.Threads.{Walk, stop, next, Youngest, FindsYoungest, IsInOrder, answered, linked}
 
 -- what being in order says
 pub in_parts : (low : List ℕ) (dp before e : ℕ) → in_order low dp before e ≡ true → (258 ≤ e) × (e < before) × (first_at low e + 2 ≤ dp)
@@ -22,6 +22,11 @@ in_from low dp before e a b w = and_from _ _ (and_from _ _ (le-leb 258 e a) (lt-
 pub first_above : (low : List ℕ) (e : ℕ) → e + 5 ≤ first_at low e
 unfolding first_at
 first_above low e = omega arith
+
+pub in_order_is : (low : List ℕ) (before e : ℕ) → in_order low (length low) before e ≡ true → IsInOrder low before e
+in_order_is low before e h =
+    let p = in_parts low (length low) before e h in
+    record { above = p.0; below = p.1; header = omega (arith, first_above low e, p.2); whole = p.2 }
 
 -- STEPS of a walk
 module _ (n : ℕ) (low : List ℕ) (dp : ℕ) (name : List ℕ) (before e : ℕ) where
@@ -67,9 +72,6 @@ module _ (low : List ℕ) (dp : ℕ) (name : List ℕ) (before e : ℕ) (f : Fou
 
   pub at_hit : At low dp name before e f → (e ≡ 0 → ⊥) → in_order low dp before e ≡ true → is_named low e name ≡ true → f ≡ hit e
   at_hit a h o i = a.goes ∙ walk_hit a.fuel low dp name before e h o i
-
-pub at_start : (low : List ℕ) (dp : ℕ) (name : List ℕ) (h : ℕ) → At low dp name dp h (walk (suc dp) low dp name dp h)
-at_start low dp name h = record { fuel = dp; enough = omega arith; goes = refl }
 
 -- THE RELATION
 pub walk_le : (low : List ℕ) (h y : ℕ) → Walk low h y → y ≤ h
@@ -151,15 +153,3 @@ module _ (told : Place) (low : List ℕ) (dp before e : ℕ) where
       go true q hp hq k = absurd (false≢true (cc))
       go false false hp hq k = (k, eqb-false e 0 hp, hq)
       go false true hp hq k = absurd (false≢true (cc))
-
--- in a vocabulary, where t is the thread of the name and h its head
-pub search_found : (told : Place) (low : List ℕ) (dp voc : ℕ) (name : List ℕ) (t h : ℕ) (r : Result (Option ℕ) Fault) → length low ≡ dp
-    → t ≡ at (spelled name) 0 % 4 → h ≡ cell_at low (voc + 2 * t) → r ≡ answered told (walk (suc dp) low dp (spelled name) dp h) → r ≡ answered told (search_in low voc name)
-unfolding search_in
-search_found told low dp voc name t h r l p q e = e ∙ ap (λ k. answered told (walk (suc dp) low dp (spelled name) dp k)) (q ∙ ap (λ k. cell_at low (voc + 2 * k)) p)
-    ∙ ap (λ d. answered told (walk (suc d) low d (spelled name) d (cell_at low (head_at voc (at (spelled name) 0))))) (sym l)
-
-pub search_youngest : (told : Place) (low : List ℕ) (voc : ℕ) (name : List ℕ) (r : Result (Option ℕ) Fault) → 0 < length low
-    → r ≡ answered told (search_in low voc name) → FindsYoungest told low (spelled name) (cell_at low (head_at voc (at (spelled name) 0))) r
-unfolding search_in
-search_youngest told low voc name r z e = finds_youngest told low (length low) (spelled name) _ r refl z e

@@ -1,5 +1,5 @@
 -- What a search answers, told as a relation on the links of a thread.
-use Rattle.std.specs.Prelude.{◌≡◌, ℕ, ◌+◌, ◌<◌, ◌≤◌, true, false, cond, ◌≢◌, List, length, Some, None, Ok, Err, Option, Result, ◌==◌, slice_index}
+use Rattle.std.specs.Prelude.{◌≡◌, ℕ, ◌+◌, ◌<◌, ◌≤◌, true, false, cond, ◌≢◌, List, [], ◌∷◌, length, Some, None, Ok, Err, Option, Result, ◌==◌, slice_index}
 use Rattle.fault.specs.declared.Fault.{Fault}
 use Rattle.fault.specs.declared.Place.{Place}
 use Rattle.fault.specs.declared.Reason.TheVariants.{BrokenLink}
@@ -30,6 +30,10 @@ Youngest low name h (hit x) = Walk low h x × (is_named low x name ≡ true) × 
 Youngest low name h missing = Walk low h 0 × ((y : ℕ) → Walk low h y → 0 < y → is_named low y name ≡ false)
 Youngest low name h broken = (y : ℕ) × Walk low h y × (y ≢ 0) × ¬ Sound low y
 
+-- the four heads of a vocabulary
+abbrev pub heads_of : List ℕ → ℕ → List ℕ
+heads_of low voc = cell_at low voc ∷ cell_at low (voc + 2) ∷ cell_at low (voc + 4) ∷ cell_at low (voc + 6) ∷ []
+
 -- as an answer: an entry, nothing, or the refusal of a link out of order at the place told
 abbrev pub answered : Place → Found → Result (Option ℕ) Fault
 answered told missing = Ok None
@@ -39,6 +43,13 @@ answered told (hit e) = Ok (Some e)
 -- the answer is of what is found in the thread from h down
 abbrev pub FindsYoungest : Place → List ℕ → List ℕ → ℕ → Result (Option ℕ) Fault → Type 0
 FindsYoungest told low name h r = (f : Found) × (r ≡ answered told f) × Youngest low name h f
+
+-- the entry e lies at 258 or above, below the one before, and whole in the dictionary
+pub record IsInOrder (low : List ℕ) (before e : ℕ) : Type 0 where
+  pub above : 258 ≤ e
+  pub below : e < before
+  pub header : e + 7 ≤ length low
+  pub whole : first_at low e + 2 ≤ length low
 
 -- what a link names, where `before` holds it: an entry in order, or at the thread's end nothing
 abbrev pub linked : List ℕ → ℕ → ℕ → ℕ → Found

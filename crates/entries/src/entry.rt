@@ -1,114 +1,123 @@
 // One entry: its bytes, its cells, its name.
-ghost use Rattle.std.specs.Prelude.{◌≡◌, ◌+◌, ◌%◌, ◌<◌, ◌≤◌, length};
-ghost use Rattle.entries.specs.Entries.{capital, first_at, is_immediate, is_named, name_length, spelled, token_of};
+ghost use Rattle.std.specs.Prelude.{◌≡◌, ◌+◌, ◌<◌, ◌≤◌, length, max};
+ghost use Rattle.entries.specs.Entries.{first_at, is_immediate, is_named, name_length, spelled, token_of};
 ghost use Rattle.entries.specs.Threads.{Ascii};
 ghost use Rattle.image.specs.Cells.{at, cell_at};
 ghost use Rattle.image.specs.Views.{low_of};
 
+use super::name::held_byte;
 use image::fetch;
+use std::marker::Model;
 
-// A byte of the dictionary.
-pub fn byte(image: &[u8], dp: u16, a: u16) -> u8
-    requires { (length image.now ≡ 65536) × ((256 ≤ a) × (a < dp)) }
-    ensures { result ≡ at (low_of dp image.now) a }
-{
-    image[index_of(a)]
+// What is added to the count byte of an immediate entry.
+pub const IMMEDIATE: u8 = 64;
+
+// The dictionary in a lent image, to be read. Clauses see its bytes up to DP; those below 256 are 0 in them.
+#[derive(Drop)]
+pub struct Entries<'a> {
+    image: &'a [u8; 65536],
+    dp: u16,
 }
 
-// Where an address lies in the image.
-fn index_of(a: u16) -> usize
-    ensures { result ≡ a }
-{
-    a as usize
+impl<'a> Model for Entries<'a> {
+    ghost use Rattle.std.specs.Prelude.{◌≡◌, ℕ, ◌<◌, List, length};
+    ghost use Rattle.image.specs.Views.{low_of};
+
+    ghost Value = { List ℕ };
+
+    ghost view = { λ e. low_of e.dp e.image.now };
+
+    ghost invariant = { λ e. (e.dp < 65536) × (length e.image.now ≡ 65536) };
 }
 
-// A cell of the dictionary.
-pub fn cell(image: &[u8], dp: u16, a: u16) -> u16
-    requires { (length image.now ≡ 65536) × ((256 ≤ a) × (a + 1 < dp)) }
-    ensures { result ≡ cell_at (low_of dp image.now) a }
-{
-    fetch(image, a as usize)
-}
-
-// The length of an entry's name.
-pub fn name_length(image: &[u8], dp: u16, entry: u16) -> u16
-    requires { (length image.now ≡ 65536) × ((256 ≤ entry) × (entry + 2 < dp)) }
-    ensures { result ≡ name_length (low_of dp image.now) entry }
-{
-    u16::from(byte(image, dp, entry + 2) % 32)
-}
-
-// Where an entry's first parameter cell lies.
-pub fn first_parameter(image: &[u8], dp: u16, entry: u16) -> u16
-    requires { (length image.now ≡ 65536) × ((256 ≤ entry) × ((entry + 2 < dp) × (dp ≤ 32768))) }
-    ensures { result ≡ first_at (low_of dp image.now) entry }
-{
-    behind_code(entry, name_length(image, dp, entry))
-}
-
-// What lies behind the code cell of an entry with a name of that length.
-fn behind_code(entry: u16, length: u16) -> u16
-    requires { (entry ≤ 32768) × (length < 32) }
-    ensures { result ≡ entry + 5 + length }
-{
-    entry + 5 + length
-}
-
-// An entry's token: the address of its code cell.
-pub fn token_of(image: &[u8], dp: u16, entry: u16) -> u16
-    requires { (length image.now ≡ 65536) × ((256 ≤ entry) × ((entry + 2 < dp) × (dp ≤ 32768))) }
-    ensures { result ≡ token_of (low_of dp image.now) entry }
-{
-    entry + 3 + name_length(image, dp, entry)
-}
-
-// Is an entry immediate?
-pub fn is_immediate(image: &[u8], dp: u16, entry: u16) -> bool
-    requires { (length image.now ≡ 65536) × ((256 ≤ entry) × ((entry + 2 < dp) × (dp ≤ 32768))) }
-    ensures { result ≡ is_immediate (low_of dp image.now) entry }
-{
-    byte(image, dp, entry + 2) / 64 % 2 == 1
-}
-
-// A byte of a name, a to z as A to Z.
-fn capital_of(b: u8) -> u8
-    ensures { result ≡ capital b }
-{
-    match b {
-        b'a'..=b'z' => b - 32,
-        _ => b,
+impl<'a> Entries<'a> {
+    pub fn new(image: &'a [u8; 65536], dp: u16) -> Self
+        ensures bytes { result ≡ low_of dp image.now }
+        ensures size { length result ≡ max 256 dp }
+    {
+        Entries { image, dp }
     }
-}
 
-// A byte of a name as an entry holds it.
-pub fn held_byte(name: &[u8], i: usize) -> u8
-    requires { (i < length name.now) × (Ascii name.now) }
-    ensures { result ≡ at (spelled name.now) i }
-{
-    let b = capital_of(name[i]);
-    if i + 1 == name.len() { b + 128 } else { b }
-}
-
-// The thread of a name.
-pub fn thread_of(name: &[u8]) -> u16
-    requires { (1 ≤ length name.now) × (Ascii name.now) }
-    ensures { result ≡ at (spelled name.now) 0 % 4 }
-{
-    u16::from(held_byte(name, 0) % 4)
-}
-
-// Is this the name of an entry?
-pub fn is_named(image: &[u8], dp: u16, entry: u16, name: &[u8]) -> bool
-    requires { (length image.now ≡ 65536) × ((256 ≤ entry) × ((first_at (low_of dp image.now) entry + 2 ≤ dp) × ((dp ≤ 32768) × (Ascii name.now)))) }
-    ensures { result ≡ is_named (low_of dp image.now) entry (spelled name.now) }
-{
-    if name_length(image, dp, entry) as usize != name.len() {
-        return false;
+    // Where the dictionary ends: DP, or 256 if DP lies below.
+    pub fn end(&self) -> u16
+        ensures end { result ≡ length self.now }
+        ensures low { 256 ≤ result }
+    {
+        self.dp.max(256)
     }
-    for i in 0..name.len() {
-        if image[entry as usize + 3 + i] != held_byte(name, i) {
+
+    // A byte of the dictionary.
+    pub fn byte(&self, a: u16) -> u8
+        requires { (256 ≤ a) × (a < length self.now) }
+        ensures { result ≡ at self.now a }
+    {
+        self.image[usize::from(a)]
+    }
+
+    // A cell of the dictionary.
+    pub fn cell(&self, a: u16) -> u16
+        requires { (256 ≤ a) × (a + 1 < length self.now) }
+        ensures { result ≡ cell_at self.now a }
+    {
+        let image = self.image;
+        fetch(image, usize::from(a))
+    }
+
+    // The count byte of an entry.
+    fn count(&self, entry: u16) -> u8
+        requires { (256 ≤ entry) × (entry + 2 < length self.now) }
+        ensures { result ≡ at self.now (entry + 2) }
+    {
+        self.image[usize::from(entry) + 2]
+    }
+
+    // The length of an entry's name.
+    pub fn name_length(&self, entry: u16) -> u16
+        requires { (256 ≤ entry) × (entry + 2 < length self.now) }
+        ensures { result ≡ name_length self.now entry }
+    {
+        u16::from(self.count(entry) % 32)
+    }
+
+    // Where an entry's first parameter cell lies.
+    pub fn first_parameter(&self, entry: u16) -> u16
+        requires { (256 ≤ entry) × ((entry + 2 < length self.now) × (length self.now ≤ 32768)) }
+        ensures first { result ≡ first_at self.now entry }
+        ensures above { entry + 5 ≤ result }
+    {
+        entry + 5 + self.name_length(entry)
+    }
+
+    // An entry's token: the address of its code cell.
+    pub fn token_of(&self, entry: u16) -> u16
+        requires { (256 ≤ entry) × ((entry + 2 < length self.now) × (length self.now ≤ 32768)) }
+        ensures { result ≡ token_of self.now entry }
+    {
+        entry + 3 + self.name_length(entry)
+    }
+
+    // Is an entry immediate?
+    pub fn is_immediate(&self, entry: u16) -> bool
+        requires { (256 ≤ entry) × (entry + 2 < length self.now) }
+        ensures { result ≡ is_immediate self.now entry }
+    {
+        self.count(entry) / IMMEDIATE % 2 == 1
+    }
+
+    // Is this the name of an entry?
+    pub fn is_named(&self, entry: u16, name: &[u8]) -> bool
+        requires { (256 ≤ entry) × ((first_at self.now entry + 2 ≤ length self.now) × (Ascii name.now)) }
+        ensures { result ≡ is_named self.now entry (spelled name.now) }
+    {
+        if usize::from(self.name_length(entry)) != name.len() {
             return false;
         }
+        let start = usize::from(entry) + 3;
+        for i in 0..name.len() {
+            if self.image[start + i] != held_byte(name, i) {
+                return false;
+            }
+        }
+        true
     }
-    true
 }

@@ -2,13 +2,11 @@
 #![tactic(auto)]
 
 mod entry;
+mod name;
 mod thread;
 
-pub use entry::{
-    byte, cell, first_parameter, held_byte, is_immediate, is_named, name_length, thread_of,
-    token_of,
-};
-pub use thread::{in_order, next_in_thread, search_thread, search_vocabulary};
+pub use entry::{Entries, IMMEDIATE};
+pub use name::{held_byte, thread_of};
 
 #[cfg(test)]
 mod tests {
@@ -27,20 +25,18 @@ mod tests {
     fn searches(rt: HostRuntime) {
         let mut image = written();
         let told = Place::nowhere();
-        assert_eq!(rt; search_thread(&image, 280, 270, b"ab", told), Ok(Some(258)));
-        assert_eq!(rt; search_thread(&image, 280, 270, b"a", told), Ok(Some(270)));
-        assert_eq!(rt; search_thread(&image, 280, 258, b"A", told), Ok(None));
-        assert_eq!(rt; token_of(&image, 280, 270), 274);
+        let entries = Entries::new(&image, 280);
+        assert_eq!(rt; entries.search_thread(270, b"ab", told), Ok(Some(258)));
+        assert_eq!(rt; entries.search_thread(270, b"a", told), Ok(Some(270)));
+        assert_eq!(rt; entries.search_thread(258, b"A", told), Ok(None));
+        assert_eq!(rt; entries.token_of(270), 274);
         assert_eq!(rt;
-            (
-                is_immediate(&image, 280, 270),
-                is_immediate(&image, 280, 258),
-            ),
+            (entries.is_immediate(270), entries.is_immediate(258)),
             (true, false)
         );
         image[270] = 14;
         assert_eq!(rt;
-            search_thread(&image, 280, 270, b"AB", told),
+            Entries::new(&image, 280).search_thread(270, b"AB", told),
             Err(Fault::new(Reason::BrokenLink, told))
         );
     }

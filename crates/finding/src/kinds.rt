@@ -1,5 +1,5 @@
 // The kind of the word just taken.
-ghost use Rattle.std.specs.Prelude.{◌≡◌, ◌+◌, ◌≤◌, length};
+ghost use Rattle.std.specs.Prelude.{◌≡◌, ◌+◌, ◌≤◌};
 ghost use Rattle.entries.specs.Entries.{is_immediate, token_of};
 ghost use Rattle.image.specs.Cells.{cell_at};
 ghost use Rattle.finding.specs.Finding.{Interpreting, KindIs};
@@ -11,7 +11,7 @@ ghost use Rattle.texts.specs.Texts.{WordInside};
 use super::searching::search;
 use super::word::Word;
 use definition::ranged::Registers;
-use entries::{is_immediate, token_of};
+use entries::Entries;
 use fault::{Fault, Reason};
 use numbers::read_number;
 use steps::faults::refusal;
@@ -19,12 +19,13 @@ use texts::names::is_name;
 use texts::words::last_word;
 
 // The word of an entry.
-fn word_at(registers: &Registers, image: &[u8], entry: u16) -> Word
-    requires { (length image.now ≡ 65536) × ((258 ≤ entry) × (entry + 7 ≤ registers.now.shared.ends.dp)) }
+fn word_at(registers: &Registers, image: &[u8; 65536], entry: u16) -> Word
+    requires { (258 ≤ entry) × (entry + 7 ≤ registers.now.shared.ends.dp) }
     ensures { result ≡ kind_at (low_of registers.now.shared.ends.dp image.now) entry }
 {
-    let token = token_of(image, registers.shared.ends.dp, entry);
-    if is_immediate(image, registers.shared.ends.dp, entry) {
+    let entries = Entries::new(image, registers.shared.ends.dp);
+    let token = entries.token_of(entry);
+    if entries.is_immediate(entry) {
         Word::Immediate(token)
     } else {
         Word::Plain(token)
@@ -32,16 +33,14 @@ fn word_at(registers: &Registers, image: &[u8], entry: u16) -> Word
 }
 
 // BASE's cell.
-fn base(image: &[u8]) -> u16
-    requires { length image.now ≡ 65536 }
+fn base(image: &[u8; 65536]) -> u16
     ensures { result ≡ cell_at image.now 32768 }
 {
     image::fetch(image, 32768)
 }
 
 // What the word just taken is: is it a name (5), is each link walked in order (6), is it found, or a number (7)?
-pub fn word_of(registers: &Registers, image: &[u8]) -> Result<Word, Fault>
-    requires lent { length image.now ≡ 65536 }
+pub fn word_of(registers: &Registers, image: &[u8; 65536]) -> Result<Word, Fault>
     requires inside { WordInside registers.now.seat }
     requires holds { HoldsDictionary registers.now }
     ensures kind { KindIs registers.now image.now result }

@@ -28,8 +28,7 @@ pub fn told(registers: &Registers) -> Place
 }
 
 // The entry of a name in the search order, or nothing.
-pub fn search(registers: &Registers, image: &[u8], name: &[u8]) -> Result<Option<u16>, Fault>
-    requires lent { length image.now ≡ 65536 }
+pub fn search(registers: &Registers, image: &[u8; 65536], name: &[u8]) -> Result<Option<u16>, Fault>
     requires named { (1 ≤ length name.now) × (Ascii name.now) }
     requires holds { HoldsDictionary registers.now }
     ensures found { (c t : List ℕ) (k : List Mark) (s : Meaning) → Answers (ask_found (seen registers.now image.now c t k s) (searched (dict_of (seen registers.now image.now c t k s)) name.now)) result (seen registers.now image.now c t k s) }

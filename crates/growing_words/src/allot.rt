@@ -11,7 +11,7 @@ ghost use Rattle.steps.specs.Does.{OnSpace};
 ghost use Rattle.steps.specs.Seats.{told_by};
 
 use definition::ranged::Registers;
-use entries::byte;
+use entries::Entries;
 use fault::{Fault, Reason};
 use steps::cells;
 use steps::faults::refusal;
@@ -35,20 +35,18 @@ fn at_least_bottom(body: u16) -> u16
 }
 
 // A byte of the dictionary; what does not lie in it counts as 0.
-fn byte_or_zero(image: &[u8], dp: u16, a: u16) -> u8
-    requires lent { length image.now ≡ 65536 }
-    requires bottom { 256 ≤ dp }
+fn byte_or_zero(image: &[u8; 65536], dp: u16, a: u16) -> u8
+    requires { 256 ≤ dp }
     ensures { result ≡ at (low_of dp image.now) a }
 {
     if a < 256 || a >= dp {
         return 0;
     }
-    byte(image, dp, a)
+    Entries::new(image, dp).byte(a)
 }
 
 // A cell of the dictionary, of such bytes.
-fn cell_or_zero(image: &[u8], dp: u16, a: u16) -> u16
-    requires lent { length image.now ≡ 65536 }
+fn cell_or_zero(image: &[u8; 65536], dp: u16, a: u16) -> u16
     requires bottom { 256 ≤ dp }
     requires inside { a < 65535 }
     ensures { result ≡ cell_at (low_of dp image.now) a }
@@ -57,8 +55,7 @@ fn cell_or_zero(image: &[u8], dp: u16, a: u16) -> u16
 }
 
 // The lowest that HERE may go: the newest entry's first parameter cell, and not below 34,048.
-fn lowest(registers: &Registers, image: &[u8]) -> u16
-    requires { length image.now ≡ 65536 }
+fn lowest(registers: &Registers, image: &[u8; 65536]) -> u16
     ensures value { result ≡ lowest_of (low_of registers.now.shared.ends.dp image.now) registers.now.shared.names.newest }
     ensures low { 34048 ≤ result }
 {
@@ -76,8 +73,7 @@ fn is_allowed(lowest: u16, end: usize) -> bool
 }
 
 // Where HERE goes, if it may.
-fn new_end(registers: &Registers, image: &[u8], n: u16) -> Result<u16, Fault>
-    requires { length image.now ≡ 65536 }
+fn new_end(registers: &Registers, image: &[u8; 65536], n: u16) -> Result<u16, Fault>
     ensures { MatchResult result (λ end. (end ≡ moved_by registers.now.shared.ends.here n) × (allowed (lowest_of (low_of registers.now.shared.ends.dp image.now) registers.now.shared.names.newest) end ≡ true) × (34048 ≤ end) × (end ≤ 65535)) (λ e. (allowed (lowest_of (low_of registers.now.shared.ends.dp image.now) registers.now.shared.names.newest) (moved_by registers.now.shared.ends.here n) ≡ false) × (e ≡ fault_of DataFull (told_by registers.now.seat))) }
 {
     let end = moved_by(registers.shared.ends.here, n);
@@ -88,8 +84,8 @@ fn new_end(registers: &Registers, image: &[u8], n: u16) -> Result<u16, Fault>
 }
 
 // HERE goes to an end, and what is added is cleared.
-fn resize(registers: &mut Registers, image: &mut [u8], end: u16)
-    requires { (length image.old ≡ 65536) × (34048 ≤ end) }
+fn resize(registers: &mut Registers, image: &mut [u8; 65536], end: u16)
+    requires { 34048 ≤ end }
     ensures shared { registers.new.shared ≡ with_here end registers.old.shared }
     ensures seat { registers.new.seat ≡ registers.old.seat }
     ensures cleared { image.new ≡ overwritten registers.old.shared.ends.here (replicate (end - registers.old.shared.ends.here) 0) image.old }
@@ -101,8 +97,8 @@ fn resize(registers: &mut Registers, image: &mut [u8], end: u16)
 }
 
 // ALLOT
-pub fn allot(registers: &mut Registers, image: &mut [u8], cells: &[u16]) -> Result<(), Fault>
-    requires { (length image.old ≡ 65536) × (length cells.now ≡ 128) }
+pub fn allot(registers: &mut Registers, image: &mut [u8; 65536], cells: &[u16]) -> Result<(), Fault>
+    requires { length cells.now ≡ 128 }
     ensures did { OnSpace 46 registers.old image.old cells.now result registers.new image.new cells.now }
     ensures below { take 256 image.new ≡ take 256 image.old }
 {

@@ -15,18 +15,17 @@ use Rattle.kernel.specs.Table.{Row, kernel}
 use Rattle.kernel.specs.Boot.{with_kernel, forth_alone, boot_dict}
 use Rattle.kernel.specs.Bytes.{rows_in, all_below128, is_table}
 
--- where the loading has come: to `at` in the table, with the number k next
-pub record Loading (table : List ℕ) (at k start dp : ℕ) (D final : Dict) : Type 0 where
+-- where the loading has come: to `rest` of a table of that size, with the number k next
+pub record Loading (rest : List ℕ) (k start size dp : ℕ) (D final : Dict) : Type 0 where
   pub fuel : ℕ
-  pub enough : length table ≤ at + fuel
-  pub within : at ≤ length table
-  pub few : k ≤ at + 1
-  pub room : dp ≤ start + 10 * at
-  pub sound : is_table fuel (drop at table) ≡ true
-  pub goes : final ≡ with_kernel k (rows_in fuel (drop at table)) D
+  pub enough : length rest ≤ fuel
+  pub few : k + length rest ≤ size + 1
+  pub room : dp + 10 * length rest ≤ start + 10 * size
+  pub sound : is_table fuel rest ≡ true
+  pub goes : final ≡ with_kernel k (rows_in fuel rest) D
 
-pub loading_start : (table : List ℕ) (dp : ℕ) (D : Dict) → is_table (length table) table ≡ true → Loading table 0 1 dp dp D (with_kernel 1 (rows_in (length table) table) D)
-loading_start table dp D h = record { fuel = length table; enough = omega arith; within = omega arith; few = omega arith; room = omega arith; sound = h; goes = refl }
+pub loading_start : (table : List ℕ) (dp : ℕ) (D : Dict) → is_table (length table) table ≡ true → Loading table 1 dp (length table) dp D (with_kernel 1 (rows_in (length table) table) D)
+loading_start table dp D h = record { fuel = length table; enough = omega arith; few = omega arith; room = omega arith; sound = h; goes = refl }
 
 ascii : (name : List ℕ) → all_below128 name ≡ true → Ascii name
 unfolding all_below128
@@ -67,50 +66,44 @@ kernel_nil : (k : ℕ) (D : Dict) → with_kernel k [] D ≡ D
 unfolding with_kernel
 kernel_nil k D = refl
 
--- the word at `at`, and what is behind it
-pub loading_first : (table : List ℕ) (at k start dp : ℕ) (D final : Dict) → Loading table at k start dp D final → at < length table → First (get_or table at 0) (drop (at + 1) table)
-loading_first table at k start dp D final l h = go l.fuel l.enough l.sound
+-- its first word, and what is behind it
+pub loading_first : (rest : List ℕ) (k start size dp : ℕ) (D final : Dict) → Loading rest k start size dp D final → 1 ≤ length rest → First (get_or rest 0 0) (drop 1 rest)
+loading_first [] k start size dp D final l h = absurd (omega arith)
+loading_first (c ∷ bytes) k start size dp D final l h = go l.fuel l.enough l.sound
   where
-    go : (n : ℕ) → length table ≤ at + n → is_table n (drop at table) ≡ true → First (get_or table at 0) (drop (at + 1) table)
+    go : (n : ℕ) → length (c ∷ bytes) ≤ n → is_table n (c ∷ bytes) ≡ true → First c bytes
     go zero o s = absurd (omega arith)
-    go (suc n) o s = (first n (get_or table at 0) (drop (at + 1) table) (subst (λ x. is_table (suc n) x ≡ true) (drop_more table at 0 h) s)).0
+    go (suc n) o s = (first n c bytes s).0
 
-pub loading_more : (table : List ℕ) (at k start dp : ℕ) (D E final : Dict) (to dp' flags size : ℕ) → Loading table at k start dp D final → at < length table
-    → size ≡ get_or table at 0 % 32 → flags ≡ get_or table at 0 - get_or table at 0 % 32 → to ≡ at + 1 + size
-    → E ≡ defined 0 flags (spelled (take (to - (at + 1)) (drop (at + 1) table))) k [] D
-    → dp' ≡ dp + 9 + get_or table at 0 % 32
-    → Loading table to (k + 1) start dp' E final
-loading_more table at k start dp D E final to dp' flags size l h q y t e d = go l.fuel l.enough l.sound l.goes
+pub loading_more : (rest name others : List ℕ) (k start size dp dp' : ℕ) (D E final : Dict) → Loading rest k start size dp D final → 1 ≤ length rest
+    → name ≡ take (get_or rest 0 0 % 32) (drop 1 rest) → others ≡ drop (get_or rest 0 0 % 32) (drop 1 rest)
+    → E ≡ defined 0 (get_or rest 0 0 - get_or rest 0 0 % 32) (spelled name) k [] D → dp' ≡ dp + 9 + get_or rest 0 0 % 32 → Loading others (k + 1) start size dp' E final
+loading_more [] name others k start size dp dp' D E final l h p q e d = absurd (omega arith)
+loading_more (c ∷ bytes) name others k start size dp dp' D E final l h p q e d = rw (q, e, p) (go l.fuel l.enough l.sound l.goes)
   where
-    c : ℕ
-    c = get_or table at 0
+    n : ℕ
+    n = c % 32
 
-    rest : List ℕ
-    rest = drop (at + 1) table
+    G : Dict
+    G = defined 0 (c - n) (spelled (take n bytes)) k [] D
 
-    go : (n : ℕ) → length table ≤ at + n → is_table n (drop at table) ≡ true → final ≡ with_kernel k (rows_in n (drop at table)) D → Loading table to (k + 1) start dp' E final
+    go : (m : ℕ) → length (c ∷ bytes) ≤ m → is_table m (c ∷ bytes) ≡ true → final ≡ with_kernel k (rows_in m (c ∷ bytes)) D → Loading (drop n bytes) (k + 1) start size dp' G final
     go zero o s g = absurd (omega arith)
-    go (suc n) o s g =
-        let f = first n c rest (subst (λ x. is_table (suc n) x ≡ true) (drop_more table at 0 h) s) in
-        let m = length-drop (at + 1) table in
-        let u : drop (c % 32) rest ≡ drop to table = drop-drop (c % 32) (at + 1) table ∙ ap (λ i. drop i table) (omega arith) in
-        let w : to - (at + 1) ≡ c % 32 = omega arith in
-        let v : defined 0 (c - c % 32) (spelled (take (c % 32) rest)) k [] D ≡ E = ap (λ i. defined 0 (c - c % 32) (spelled (take i rest)) k [] D) (sym w) ∙ (ap (λ i. defined 0 i (spelled (take (to - (at + 1)) rest)) k [] D) (sym y) ∙ sym e) in
+    go (suc m) o s g =
+        let f = first m c bytes s in
+        let b = length-drop n bytes in
         record {
-          fuel = n;
+          fuel = m;
           enough = omega arith;
-          within = omega (arith, f.0.whole, m);
-          few = omega (arith, l.few);
-          room = omega (arith, l.room);
-          sound = subst (λ x. is_table n x ≡ true) u f.1;
-          goes = g ∙ (ap (λ x. with_kernel k (rows_in (suc n) x) D) (drop_more table at 0 h) ∙ (ap (λ x. with_kernel k x D) (rows_cons n c rest)
-              ∙ (kernel_cons k _ (rows_in n (drop (c % 32) rest)) D
-              ∙ (ap (λ x. with_kernel (k + 1) (rows_in n x) (defined 0 (c - c % 32) (spelled (take (c % 32) rest)) k [] D)) u ∙ ap (with_kernel (k + 1) (rows_in n (drop to table))) v))));
+          few = omega (arith, l.few, f.0.some);
+          room = omega (arith, l.room, f.0.some, f.0.whole);
+          sound = f.1;
+          goes = g ∙ (ap (λ x. with_kernel k x D) (rows_cons m c bytes) ∙ kernel_cons k _ (rows_in m (drop n bytes)) D);
         }
 
-pub loading_end : (table : List ℕ) (at k start dp : ℕ) (D final : Dict) → Loading table at k start dp D final → length table ≤ at → D ≡ final
-loading_end table at k start dp D final l h =
-    sym (l.goes ∙ (ap (λ x. with_kernel k (rows_in l.fuel x) D) (drop_all at table h) ∙ (ap (λ x. with_kernel k x D) (rows_nil l.fuel) ∙ kernel_nil k D)))
+pub loading_end : (rest : List ℕ) (k start size dp : ℕ) (D final : Dict) → Loading rest k start size dp D final → length rest < 1 → D ≡ final
+loading_end [] k start size dp D final l h = sym (l.goes ∙ (ap (λ x. with_kernel k x D) (rows_nil l.fuel) ∙ kernel_nil k D))
+loading_end (c ∷ bytes) k start size dp D final l h = absurd (omega arith)
 
 -- FORTH's entry written
 low_none : (image : List ℕ) → low_of 256 image ≡ zeros 256

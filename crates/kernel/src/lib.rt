@@ -10,7 +10,7 @@ ghost use Rattle.kernel.specs.Boot.{boot_dict, forth_alone, with_kernel};
 ghost use Rattle.kernel.specs.Bytes.{is_table, rows_in};
 
 use dictionary::FORTH;
-use dictionary::registers::{Dictionary, Ends, Names, SearchOrder};
+use dictionary::registers::{DATA_SPACE, Dictionary, Ends, Names, SearchOrder};
 use fault::Place;
 
 // FORTH's entry, from 256 on.
@@ -28,8 +28,7 @@ const KERNEL: &[u8; 498] = b"\
     \x02R@\x01I\x01J\x05LEAVE\x05(LIT)\x06BRANCH\x07?BRANCH\x04(DO)\x06(LOOP)\x07(+LOOP)\x07(;CODE)\x04(.\")";
 
 // The dictionary that boot leaves, written into the image.
-pub fn boot(image: &mut [u8]) -> Dictionary
-    requires { length image.old ≡ 65536 }
+pub fn boot(image: &mut [u8; 65536]) -> Dictionary
     ensures made { dict_of result image.new ≡ boot_dict }
     ensures rest { Outside image.old image.new }
 {
@@ -39,8 +38,7 @@ pub fn boot(image: &mut [u8]) -> Dictionary
 }
 
 // FORTH, which is its own first entry.
-fn forth_alone(image: &mut [u8]) -> Dictionary
-    requires { length image.old ≡ 65536 }
+fn forth_alone(image: &mut [u8; 65536]) -> Dictionary
     ensures made { dict_of result image.new ≡ forth_alone }
     ensures dp { result.ends.dp ≡ 280 }
     ensures rest { Outside image.old image.new }
@@ -49,7 +47,7 @@ fn forth_alone(image: &mut [u8]) -> Dictionary
     Dictionary {
         ends: Ends {
             dp: 280,
-            here: 34048,
+            here: DATA_SPACE,
         },
         names: Names {
             newest: 258,
@@ -64,40 +62,24 @@ fn forth_alone(image: &mut [u8]) -> Dictionary
 }
 
 // Defines the words of a table, numbered from 1.
-fn kernel_words(d: &mut Dictionary, image: &mut [u8], table: &[u8])
-    requires { (length image.old ≡ 65536) × ((d.old.ends.dp + 10 * length table.now ≤ 32768) × (is_table (length table.now) table.now ≡ true)) }
+fn kernel_words(d: &mut Dictionary, image: &mut [u8; 65536], table: &[u8])
+    requires { (d.old.ends.dp + 10 * length table.now ≤ 32768) × (is_table (length table.now) table.now ≡ true) }
     ensures made { dict_of d.new image.new ≡ with_kernel 1 (rows_in (length table.now) table.now) (dict_of d.old image.old) }
     ensures rest { Outside image.old image.new }
 {
-    let mut at = 0;
+    let mut rest = table;
     let mut number = 1;
-    'words: while at < table.len() {
-        let count = table[at];
-        let from = at + 1;
-        let to = from + length_in(count);
-        kernel_word(d, image, flags_in(count), &table[from..to], number);
-        at = to;
+    'words: while let [count, names @ ..] = rest {
+        let (name, others) = names.split_at(usize::from(*count % 32));
+        kernel_word(d, image, *count - *count % 32, name, number);
+        rest = others;
         number += 1;
     }
 }
 
-// The length of a name, from its byte in the table.
-fn length_in(count: u8) -> usize
-    ensures { result ≡ count % 32 }
-{
-    (count % 32) as usize
-}
-
-// 64 for an immediate word.
-fn flags_in(count: u8) -> u8
-    ensures { result ≡ count - count % 32 }
-{
-    count - count % 32
-}
-
 // Defines a kernel word, which has space.
-fn kernel_word(d: &mut Dictionary, image: &mut [u8], flags: u8, name: &[u8], number: u16)
-    requires space { (length image.old ≡ 65536) × (d.old.ends.dp + 9 + length name.now ≤ 32768) }
+fn kernel_word(d: &mut Dictionary, image: &mut [u8; 65536], flags: u8, name: &[u8], number: u16)
+    requires space { d.old.ends.dp + 9 + length name.now ≤ 32768 }
     requires name { (flags ≤ 64) × ((1 ≤ length name.now) × ((length name.now ≤ 31) × (Ascii name.now))) }
     ensures made { dict_of d.new image.new ≡ defined 0 flags (spelled name.now) number [] (dict_of d.old image.old) }
     ensures dp { d.new.ends.dp ≡ d.old.ends.dp + 9 + length name.now }

@@ -221,10 +221,6 @@ moving_facts start w k young low all m h =
     let p = (kept_some start w m.before k m.vs m.kept h).0 in
     (p.above, p.under, falls_agree start low w (k - 8) 4 (sym m.size) (λ a b. sym (m.above a b)) (λ a b c. sym (m.below a (omega (arith, p.above)))) p.can)
 
-kept_le : (low : List ℕ) (w before k : ℕ) (vs : List ℕ) → Kept low w before k vs → k ≤ before
-kept_le low w before k vs (none z) = omega arith
-kept_le low w before k vs (some a r) = omega (arith, a.below)
-
 kept_lower : (low : List ℕ) (w before k : ℕ) (vs : List ℕ) → 2 ≤ before → Kept low w before k vs → k + 2 ≤ before
 kept_lower low w before k vs h (none z) = omega arith
 kept_lower low w before k vs h (some a r) = a.below

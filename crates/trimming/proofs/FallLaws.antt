@@ -98,10 +98,6 @@ falls_ok : (low : List ℕ) (w a : ℕ) → falls_at low w a ≡ true → is_som
 unfolding falls_at
 falls_ok low w a h = lands_ok low (fell low w (cell_at low a)) h
 
-pub falls_is : (low : List ℕ) (w a h : ℕ) (r : Option ℕ) → h ≡ cell_at low a → r ≡ fell low w h → lands low r ≡ falls_at low w a
-unfolding falls_at
-falls_is low w a h r q e = ap (lands low) (e ∙ ap (fell low w) q)
-
 pub threads_fall : (low : List ℕ) (w v : ℕ) → threads low w v ≡ true → Falls low w v 4
 unfolding threads
 threads_fall low w v h =
@@ -164,6 +160,3 @@ lower_more w v k low new final l h r e = record {
 pub lower_at : (w v k a : ℕ) (low new final : List ℕ) → a ≡ v + 2 * (k - 1) → v + 8 ≤ w → 0 < k → Lowering w v k low final
     → new ≡ set_cell low a (fall (length low) low w (cell_at low a)) → Lowering w v (k - 1) new final
 lower_at w v k a low new final q l h r e = lower_more w v k low new final l h r (e ∙ ap (λ b. set_cell low b (fall (length low) low w (cell_at low b))) q)
-
-pub falls_head : (low : List ℕ) (w v k a : ℕ) → a ≡ v + 2 * k → is_some (fell low w (cell_at low (v + 2 * k))) ≡ true → is_some (fell low w (cell_at low a)) ≡ true
-falls_head low w v k a q h = subst (λ b. is_some (fell low w (cell_at low b)) ≡ true) (sym q) h

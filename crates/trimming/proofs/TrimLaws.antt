@@ -1,23 +1,19 @@
 -- What the questions before a trim say, and what the trim makes.
-use Rattle.std.proofs.Common.{◌≡◌, ℕ, ◌+◌, ◌-◌, ◌<◌, ◌≤◌, true, false, cond, ◌&&◌, ◌||◌, ltb, leb, ◌⊎◌, List, length, take, Ok, Err, sym, refl, ap, ◌∙◌, subst, inl, inr, arith}
+use Rattle.std.proofs.Common.{◌≡◌, ℕ, ◌+◌, ◌-◌, ◌<◌, ◌≤◌, true, cond, ◌||◌, ltb, leb, ◌⊎◌, List, length, take, sym, ap, ◌∙◌, subst, inl, inr, arith}
 use Rattle.std.proofs.lemmas.Bool.Decides.{nat_tests}
-use Rattle.std.proofs.lemmas.Bool.{and_parts, or_cases, leb-true, ltb-true, le-leb, lt-leb, cond-true, cond-false}
+use Rattle.std.proofs.lemmas.Bool.{and_parts, or_cases, leb-true, ltb-true}
 use Rattle.image.specs.Cells.{cell_at}
 use Rattle.image.specs.Views.{low_of}
 use Rattle.image.proofs.Laws.{length_low}
-use Rattle.entries.specs.Entries.{first_at, name_length, body_of}
+use Rattle.entries.specs.Entries.{first_at, name_length}
 use Rattle.dictionary.specs.Dict.{Dict}
 use Rattle.dictionary.specs.Trim.{ordered, chain, left, link_of, trim_vocs, youngest, chained, can_forget, forgotten}
-use Rattle.dictionary.specs.Lent.{dict_of, Did}
+use Rattle.dictionary.specs.Lent.{dict_of}
 use Rattle.dictionary.specs.declared.registers.Dictionary.{Dictionary}
 use Rattle.dictionary.proofs.Changing.{low_cut}
 use Rattle.trimming.specs.Chains.{Kept}
-use Rattle.trimming.specs.Asks.{in_order_for, trimmed_at}
+use Rattle.trimming.specs.Asks.{in_order_for}
 use Rattle.entries.proofs.Walks as walks
-use Rattle.fault.specs.declared.Fault.{Fault}
-use Rattle.fault.specs.declared.Place.{Place}
-use Rattle.fault.specs.declared.Reason.TheVariants.{BadToken, BelowFence}
-use Rattle.fault.specs.Numbers.{fault_of}
 use Rattle.trimming.proofs.CellLaws.{in_parts}
 use Rattle.trimming.proofs.ChainLaws.{kept_chain}
 
@@ -83,21 +79,3 @@ asked fence w dp D l h =
     let p = and_parts (ordered D.low (length D.low) w) (ltb w fence || can_forget w D) h in
     let i = walks.in_parts D.low (length D.low) (length D.low) w p.0 in
     record { low = i.0; whole = omega (arith, i.2); all = λ f. elim (or_cases (ltb w fence) (can_forget w D) p.1) [ inl a ↦ (let b = ltb-true w fence a in absurd (omega arith)) | inr b ↦ b ] }
-
--- what the trim answers
-pub no_space : (fence w : ℕ) (told : Place) (D : Dict) (b : ℕ) (f : Fault) → b ≡ body_of D.low w → (leb 34048 b && leb b D.here) ≡ false → f ≡ fault_of BadToken told → Did (trimmed_at fence w told D) D (Err f) D
-no_space fence w told D b f q h e = (rw e (cond-false (leb 34048 (body_of D.low w) && leb (body_of D.low w) D.here) _ _ (subst (λ x. (leb 34048 x && leb x D.here) ≡ false) q h)), refl)
-
-pub kernels : (fence w : ℕ) (told : Place) (D : Dict) (b : ℕ) (f : Fault) → b ≡ body_of D.low w → (leb 34048 b && leb b D.here) ≡ true → w < fence → f ≡ fault_of BelowFence told → Did (trimmed_at fence w told D) D (Err f) D
-kernels fence w told D b f q h l e = (
-  rw e (cond-true (leb 34048 (body_of D.low w) && leb (body_of D.low w) D.here) _ _ (subst (λ x. (leb 34048 x && leb x D.here) ≡ true) q h)
-      ∙ cond-false (leb fence w) _ _ (lt-leb fence w l)),
-  refl,
-)
-
-pub trimmed_so : (fence w : ℕ) (told : Place) (D E : Dict) (b : ℕ) → b ≡ body_of D.low w → (leb 34048 b && leb b D.here) ≡ true → fence ≤ w → E ≡ forgotten w D → trimmed_at fence w told D ≡ Ok E
-trimmed_so fence w told D E b q h l e = cond-true (leb 34048 (body_of D.low w) && leb (body_of D.low w) D.here) _ _ (subst (λ x. (leb 34048 x && leb x D.here) ≡ true) q h)
-    ∙ (cond-true (leb fence w) _ _ (le-leb fence w l) ∙ ap Ok (sym e))
-
-pub data_low : (b here : ℕ) → (leb 34048 b && leb b here) ≡ true → 34048 ≤ b
-data_low b here h = leb-true 34048 b (and_parts (leb 34048 b) (leb b here) h).0

@@ -9,7 +9,6 @@ use Rattle.image.specs.Cells.{cell_at}
 use Rattle.entries.specs.Search.{missing, broken, hit}
 use Rattle.entries.specs.Threads.{answered}
 use Rattle.dictionary.specs.Dict.{Dict, with_context}
-use Rattle.dictionary.specs.Kept.{kept_end}
 use Rattle.dictionary.specs.Lent.{Did}
 use Rattle.dictionary.specs.Trim.{chain, chain_in_order, is_chain, on_chain, member}
 use Rattle.vocabularies.specs.Seeks.{link_in_order, vocabulary_linked, chain_asked, stays, sought}
@@ -141,9 +140,6 @@ seek_no v told D f i h e = (cond-true (is_chain D) _ _ i ∙ (cond-false (on_cha
 
 pub seek_yes : (v : ℕ) (told : Place) (D E : Dict) → is_chain D ≡ true → (on_chain v D && stays v D) ≡ true → E ≡ with_context v D → sought v told D ≡ Ok E
 seek_yes v told D E i h e = cond-true (is_chain D) _ _ i ∙ (cond-true (on_chain v D && stays v D) _ _ h ∙ ap Ok (sym e))
-
-pub stays_is : (v : ℕ) (D : Dict) (dp end : ℕ) (b : Bool) → length D.low ≡ dp → end ≡ kept_end dp D.opened → b ≡ (leb 270 v && leb (v + 10) end) → stays v D ≡ b
-stays_is v D dp end b l q h = ap (λ n. leb 270 v && leb (v + 10) (kept_end n D.opened)) l ∙ (ap (λ n. leb 270 v && leb (v + 10) n) (sym q) ∙ sym h)
 
 -- on the chain, and whether it stays
 pub both : (v : ℕ) (D : Dict) (a b : Bool) → on_chain v D ≡ a → a ≡ true → stays v D ≡ b → (on_chain v D && stays v D) ≡ b

@@ -7,7 +7,7 @@ use Rattle.kernel.proofs.boot.Goals as goal
 
 pub kernel_words-requires : goal.kernel_words-requires
 unfolding is_table all_below128
-kernel_words-requires c = (omega arith, (omega (arith, c.forth_alone-d.ensures.dp), refl))
+kernel_words-requires c = (omega (arith, c.forth_alone-d.ensures.dp), refl)
 
 pub returns : goal.returns
 unfolding rows_in kernel

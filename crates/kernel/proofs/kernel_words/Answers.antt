@@ -1,42 +1,50 @@
-use Rattle.std.proofs.Common.{◌≡◌, ◌+◌, ◌-◌, ◌%◌, ◌<◌, length, get_or, take, drop, sym, refl, ◌∙◌, subst, arith}
-use Rattle.std.proofs.lemmas.List.{length-take-le, length-drop}
+use Rattle.std.proofs.Common.{◌≡◌, ℕ, ◌-◌, ◌%◌, ◌<◌, ◌≤◌, List, length, get_or, take, drop, sym, ap, ◌∙◌, subst, arith}
+use Rattle.std.proofs.lemmas.List.{length-drop, take_all}
 use Rattle.dictionary.proofs.Growing.{outside_none, outside_then}
 use Rattle.kernel.proofs.Loads.{loading_start, loading_first, loading_more, loading_end}
 use Rattle.kernel.proofs.kernel_words.Goals as goal
 
+-- the bytes behind the first
+all_behind : (xs : List ℕ) → take (length xs - 1) (drop 1 xs) ≡ drop 1 xs
+all_behind xs = let l = length-drop 1 xs in take_all (length xs - 1) (drop 1 xs) (omega arith)
+
 pub words-init : goal.words-init
-words-init c = (loading_start _ _ _ c.requires.1.1, outside_none _)
+words-init c = (loading_start _ _ _ c.requires.1, outside_none _)
 
-pub slice_bounds-kernel_word-end : goal.slice_bounds-kernel_word-end
-slice_bounds-kernel_word-end c =
-    let f = loading_first c.args.table.now c.words.at _ _ _ _ _ c.words.invariant.0 c.words-test.true in
-    let m = length-drop (c.words.at + 1) c.args.table.now in
-    omega (arith, f.whole, m, c.length_in.ensures)
+pub split_at-requires : goal.split_at-requires
+split_at-requires c =
+    let rest = c.words.rest.now in
+    let f = loading_first rest _ _ _ _ _ _ c.words.invariant.0 c.in-len1-up.len_at_least in
+    let l = ap length (all_behind rest) in
+    let h : c.from.result ≤ length (take (length rest - 1) (drop 1 rest)) = omega (arith, f.whole, c.from.ensures) in
+    h
 
-pub kernel_word-requires : goal.kernel_word-requires
-kernel_word-requires c =
-    let f = loading_first c.args.table.now c.words.at _ _ _ _ _ c.words.invariant.0 c.words-test.true in
-    let m = length-drop (c.words.at + 1) c.args.table.now in
-    let count = get_or c.args.table.now c.words.at 0 in
-    let rest = drop (c.words.at + 1) c.args.table.now in
-    let e : c.words.at + 1 + c.length_in.result - (c.words.at + 1) ≡ count % 32 = omega (arith, c.length_in.ensures) in
-    let n : length (take (c.words.at + 1 + c.length_in.result - (c.words.at + 1)) rest) ≡ count % 32 = length-take-le _ rest (omega (arith, f.whole, c.length_in.ensures)) ∙ e in
-    record {
-      space = (c.words.auto.image ∙ c.requires.0, omega (arith, n, m, f.whole, c.words.invariant.0.room, c.requires.1.0));
-      name = (omega (arith, f.flags, c.flags_in.ensures), (omega (arith, n, f.some), (omega (arith, n), λ i. subst (λ k. get_or (take k rest) i 0 < 128) (sym e) (f.name i))));
-    }
+pub kernel_word-requires-clause-space : goal.kernel_word-requires-clause-space
+kernel_word-requires-clause-space c =
+    let rest = c.words.rest.now in
+    let f = loading_first rest _ _ _ _ _ _ c.words.invariant.0 c.in-len1-up.len_at_least in
+    let l = length-drop 1 rest in
+    omega (arith, f.whole, c.from.ensures, c.split_at.ensures.front_len, c.words.invariant.0.room, c.requires.0, c.in-len1-up.len_at_least)
+
+pub kernel_word-requires-clause-name : goal.kernel_word-requires-clause-name
+kernel_word-requires-clause-name c =
+    let rest = c.words.rest.now in
+    let f = loading_first rest _ _ _ _ _ _ c.words.invariant.0 c.in-len1-up.len_at_least in
+    let front = c.split_at.ensures.front ∙ ap (take c.from.result) (all_behind rest) ∙ ap (λ n. take n (drop 1 rest)) c.from.ensures in
+    let n = c.split_at.ensures.front_len in
+    (f.flags, (omega (arith, f.some, n, c.from.ensures), (omega (arith, n, c.from.ensures), λ i. subst (λ s. get_or s i 0 < 128) (sym front) (f.name i))))
+
+pub overflow_add-number : goal.overflow_add-number
+overflow_add-number c = omega (arith, c.words.invariant.0.few, c.requires.0, c.in-len1-up.len_at_least)
 
 pub words-preserved : goal.words-preserved
 words-preserved c =
-    let f = loading_first c.args.table.now c.words.at _ _ _ _ _ c.words.invariant.0 c.words-test.true in
-    let m = length-drop (c.words.at + 1) c.args.table.now in
-    let count = get_or c.args.table.now c.words.at 0 in
-    let rest = drop (c.words.at + 1) c.args.table.now in
-    let e : c.words.at + 1 + c.length_in.result - (c.words.at + 1) ≡ count % 32 = omega (arith, c.length_in.ensures) in
-    let n : length (take (c.words.at + 1 + c.length_in.result - (c.words.at + 1)) rest) ≡ count % 32 = length-take-le _ rest (omega (arith, f.whole, c.length_in.ensures)) ∙ e in (
-      loading_more c.args.table.now c.words.at _ _ _ _ _ _ _ _ _ _ c.words.invariant.0 c.words-test.true c.length_in.ensures c.flags_in.ensures refl c.kernel_word.ensures.made (omega (arith, c.kernel_word.ensures.dp, n)),
+    let rest = c.words.rest.now in
+    let front = c.split_at.ensures.front ∙ ap (take c.from.result) (all_behind rest) ∙ ap (λ n. take n (drop 1 rest)) c.from.ensures in
+    let back = c.split_at.ensures.back ∙ ap (drop c.from.result) (all_behind rest) ∙ ap (λ n. drop n (drop 1 rest)) c.from.ensures in (
+      loading_more rest _ _ _ _ _ _ _ _ _ _ c.words.invariant.0 c.in-len1-up.len_at_least front back c.kernel_word.ensures.made (omega (arith, c.kernel_word.ensures.dp, c.split_at.ensures.front_len, c.from.ensures)),
       outside_then c.words.invariant.1 c.kernel_word.ensures.rest,
     )
 
 pub returns : goal.returns
-returns c = record { made = loading_end _ _ _ _ _ _ _ c.words.invariant.0 c.words-test.false; rest = c.words.invariant.1 }
+returns c = record { made = loading_end _ _ _ _ _ _ _ c.words.invariant.0 c.in_default.len_below; rest = c.words.invariant.1 }

@@ -1,4 +1,4 @@
-use Rattle.std.proofs.Common.{◌-◌, length}
+use Rattle.std.proofs.Common.{length}
 use Rattle.dictionary.specs.Lent.{Outside, dict_of}
 use Rattle.kernel.specs.Boot.{with_kernel}
 use Rattle.kernel.specs.Bytes.{rows_in}
@@ -6,8 +6,8 @@ use Rattle.kernel.proofs.Loads.{Loading}
 use Rattle.kernel.proofs.kernel_words.Given as goal
 
 abbrev pub invariant-words : goal.invariant-words
-invariant-words l = Loading l.table l.at l.number l.initial.d.ends.dp l.d.ends.dp (dict_of l.d l.image) (with_kernel 1 (rows_in (length l.table) l.table) (dict_of l.initial.d l.initial.image))
+invariant-words l = Loading l.rest l.number l.initial.d.ends.dp (length l.table) l.d.ends.dp (dict_of l.d l.image) (with_kernel 1 (rows_in (length l.table) l.table) (dict_of l.initial.d l.initial.image))
     × Outside l.initial.image l.image
 
 abbrev pub decreases-words : goal.decreases-words
-decreases-words l = length l.table - l.at
+decreases-words l = length l.rest

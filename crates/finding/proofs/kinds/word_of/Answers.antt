@@ -13,7 +13,7 @@ returns-then-not-is_name c = record {
 pub search-requires : goal.search-requires
 search-requires c =
     let h = sym c.is_name.ensures ∙ c.if-not-is_name.false in
-    record { lent = c.requires.lent; named = (name_least c.last_word-word.result.now h, name_ascii c.last_word-word.result.now h); holds = c.requires.holds }
+    record { named = (name_least c.last_word-word.result.now h, name_ascii c.last_word-word.result.now h); holds = c.requires.holds }
 
 pub returns-in_err-found : goal.returns-in_err-found
 returns-in_err-found c =
@@ -26,7 +26,7 @@ returns-in_err-found c =
 pub word_at-requires : goal.word_at-requires
 word_at-requires c =
     let h = entry_in_lem c.args.registers.now.shared.ends.dp c.in_ok-found.found c.in-Some.entry c.in-Some.is c.in_ok-found.ensures.inside in
-    (c.requires.lent, (h.0, h.1))
+    (h.0, h.1)
 
 pub returns-in-Some : goal.returns-in-Some
 returns-in-Some c = record {

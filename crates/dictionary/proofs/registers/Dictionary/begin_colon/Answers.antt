@@ -19,7 +19,7 @@ pub invariant_of-self : goal.invariant_of-self
 invariant_of-self c =
     let e = c.in_ok-begin.ensures.end in
     let D = dict_of c.args.self.now c.args.image.now in
-    let k = kept_open c.begin.new.self.ends.dp c.args.self.now.ends.dp _ c.entry_from-e.ensures in
+    let k = kept_open c.begin.new.self.ends.dp c.args.self.now.ends.dp _ c.next_entry-e.ensures in
     let g = room_ok (9 + length c.args.name.now + 0) c.args.told D _ (dict_of c.begin.new.self c.begin.new.image) c.in_ok-begin.ensures.did in
     let u : c.begin.new.self.order.current ≡ c.args.self.now.order.current = ap (λ d. d.current) g.0 in
     record {

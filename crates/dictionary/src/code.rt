@@ -1,0 +1,6 @@
+// The code of an entry that is not the kernel's: which kind of word it is.
+pub const COLON: u16 = 201;
+
+pub const VOCABULARY: u16 = 204;
+
+pub const DOES: u16 = 205;
