@@ -4,12 +4,6 @@
 ghost use Rattle.forgetting.specs.Law.{Absorbs, Composes, Forgets};
 ghost use Rattle.std.specs.Prelude.{◌≡◌, nat_le};
 
-fn at_or_above(fence: u16, w: u16) -> bool
-    ensures { result ≡ nat_le fence w }
-{
-    fence <= w
-}
-
 // Words at FENCE or above may be forgotten. One begun after boot that FORGET finds while it stands leaves nothing behind,
 // whatever was done meanwhile, and whether or not a younger one was forgotten first.
 pub fn may_forget(fence: u16, w: u16) -> bool
@@ -18,5 +12,5 @@ pub fn may_forget(fence: u16, w: u16) -> bool
     ensures absorbs { Absorbs }
     ensures composes { Composes }
 {
-    at_or_above(fence, w)
+    fence <= w
 }
