@@ -12,6 +12,19 @@ use super::registers::Dictionary;
 use entries::thread_of;
 use fault::{Fault, Place};
 
+// An entry up to its code cell: its view, 64 if it is immediate, its name, and its code.
+#[derive(Clone, Copy)]
+pub struct Header<'a> {
+    pub view: u16,
+    pub flags: u8,
+    pub name: &'a [u8],
+    pub code: u16,
+    ghost flagged: { flags ≤ 64 },
+    ghost named: { 1 ≤ length name.now },
+    ghost short: { length name.now ≤ 31 },
+    ghost text: { Ascii name.now },
+}
+
 impl Dictionary {
     // The entry that begins next, by the address of its link cell.
     fn next_entry(&self) -> u16
@@ -20,43 +33,39 @@ impl Dictionary {
         self.ends.dp + 2
     }
 
-    // Puts an entry up to its code cell: view, link, count byte, name, code.
-    fn put_header(&mut self, image: &mut [u8; 65536], view: u16, flags: u8, name: &[u8], code: u16)
-        requires space { self.old.ends.dp + 7 + length name.now ≤ 32768 }
-        requires name { (flags ≤ 64) × ((1 ≤ length name.now) × ((length name.now ≤ 31) × (Ascii name.now))) }
-        ensures made { dict_of self.new image.new ≡ headed_by view flags (spelled name.now) code (dict_of self.old image.old) }
-        ensures dp { self.new.ends.dp ≡ self.old.ends.dp + 7 + length name.now }
+    // Puts a header: view, link, count byte, name, code.
+    fn put_header(&mut self, image: &mut [u8; 65536], header: &Header<'_>)
+        requires { self.old.ends.dp + 7 + length header.now.name.now ≤ 32768 }
+        ensures made { dict_of self.new image.new ≡ headed_by header.now.view header.now.flags (spelled header.now.name.now) header.now.code (dict_of self.old image.old) }
+        ensures dp { self.new.ends.dp ≡ self.old.ends.dp + 7 + length header.now.name.now }
         ensures rest { Outside image.old image.new }
     {
+        let name = header.name;
         let head = self.order.current + 2 * thread_of(name);
         let link = self.entries(image).cell(head);
-        self.put_cell(image, view);
+        self.put_cell(image, header.view);
         self.put_cell(image, link);
-        self.put(image, &[128 + flags + name.len() as u8]);
+        self.put(image, &[128 + header.flags + name.len() as u8]);
         self.put_name(image, name);
-        self.put_cell(image, code);
+        self.put_cell(image, header.code);
     }
 
     // Begins an entry, which does not join yet: with HERE as its first parameter cell, and the bytes of the others.
     fn begin(
         &mut self,
         image: &mut [u8; 65536],
-        view: u16,
-        flags: u8,
-        name: &[u8],
-        code: u16,
+        header: &Header<'_>,
         rest: &[u8],
         told: Place,
     ) -> Result<(), Fault>
-        requires rest { length rest.now ≤ 10 }
-        requires name { (flags ≤ 64) × ((1 ≤ length name.now) × ((length name.now ≤ 31) × (Ascii name.now))) }
-        ensures did { Did (with_room (9 + length name.now + length rest.now) told (dict_of self.old image.old) (begun view flags (spelled name.now) code rest.now (dict_of self.old image.old))) (dict_of self.old image.old) result (dict_of self.new image.new) }
-        ensures end { OnOk result (self.new.ends.dp ≡ self.old.ends.dp + 9 + length name.now + length rest.now) }
+        requires { length rest.now ≤ 10 }
+        ensures did { Did (with_room (9 + length header.now.name.now + length rest.now) told (dict_of self.old image.old) (begun header.now.view header.now.flags (spelled header.now.name.now) header.now.code rest.now (dict_of self.old image.old))) (dict_of self.old image.old) result (dict_of self.new image.new) }
+        ensures end { OnOk result (self.new.ends.dp ≡ self.old.ends.dp + 9 + length header.now.name.now + length rest.now) }
         ensures rest { Outside image.old image.new }
     {
-        self.room(9 + name.len() + rest.len(), told)?;
+        self.room(9 + header.name.len() + rest.len(), told)?;
         let here = self.ends.here;
-        self.put_header(image, view, flags, name, code);
+        self.put_header(image, header);
         self.put_cell(image, here);
         self.put(image, rest);
         Ok(())
@@ -78,22 +87,18 @@ impl Dictionary {
     pub fn define(
         &mut self,
         image: &mut [u8; 65536],
-        view: u16,
-        flags: u8,
-        name: &[u8],
-        code: u16,
+        header: &Header<'_>,
         rest: &[u8],
         told: Place,
     ) -> Result<(), Fault>
-        requires rest { length rest.now ≤ 10 }
-        requires name { (flags ≤ 64) × ((1 ≤ length name.now) × ((length name.now ≤ 31) × (Ascii name.now))) }
-        ensures did { Did (with_room (9 + length name.now + length rest.now) told (dict_of self.old image.old) (defined view flags (spelled name.now) code rest.now (dict_of self.old image.old))) (dict_of self.old image.old) result (dict_of self.new image.new) }
-        ensures end { OnOk result (self.new.ends.dp ≡ self.old.ends.dp + 9 + length name.now + length rest.now) }
+        requires { length rest.now ≤ 10 }
+        ensures did { Did (with_room (9 + length header.now.name.now + length rest.now) told (dict_of self.old image.old) (defined header.now.view header.now.flags (spelled header.now.name.now) header.now.code rest.now (dict_of self.old image.old))) (dict_of self.old image.old) result (dict_of self.new image.new) }
+        ensures end { OnOk result (self.new.ends.dp ≡ self.old.ends.dp + 9 + length header.now.name.now + length rest.now) }
         ensures rest { Outside image.old image.new }
     {
         let e = self.next_entry();
-        self.begin(image, view, flags, name, code, rest, told)?;
-        self.join(image, thread_of(name), e);
+        self.begin(image, header, rest, told)?;
+        self.join(image, thread_of(header.name), e);
         Ok(())
     }
 
@@ -111,7 +116,13 @@ impl Dictionary {
         ensures rest { Outside image.old image.new }
     {
         let e = self.next_entry();
-        self.begin(image, view, 0, name, code::COLON, &[], told)?;
+        let header = Header {
+            view,
+            flags: 0,
+            name,
+            code: code::COLON,
+        };
+        self.begin(image, &header, &[], told)?;
         self.order.context = self.order.current;
         self.names.opened = e;
         Ok(())
@@ -143,7 +154,13 @@ impl Dictionary {
     {
         let mut heads = [0; 10];
         image::store(&mut heads, 8, self.names.voclink);
-        self.define(image, view, 0, name, code::VOCABULARY, &heads, told)?;
+        let header = Header {
+            view,
+            flags: 0,
+            name,
+            code: code::VOCABULARY,
+        };
+        self.define(image, &header, &heads, told)?;
         self.names.voclink = self.ends.dp - 2;
         Ok(())
     }

@@ -8,4 +8,5 @@ mod grow;
 mod order;
 pub mod registers;
 
+pub use define::Header;
 pub use order::FORTH;

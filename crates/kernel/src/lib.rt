@@ -9,8 +9,8 @@ ghost use Rattle.entries.specs.Threads.{Ascii};
 ghost use Rattle.kernel.specs.Boot.{boot_dict, forth_alone, with_kernel};
 ghost use Rattle.kernel.specs.Bytes.{is_table, rows_in};
 
-use dictionary::FORTH;
 use dictionary::registers::{DATA_SPACE, Dictionary, Ends, Names, SearchOrder};
+use dictionary::{FORTH, Header};
 use fault::Place;
 
 // FORTH's entry, from 256 on.
@@ -71,22 +71,26 @@ fn kernel_words(d: &mut Dictionary, image: &mut [u8; 65536], table: &[u8])
     let mut number = 1;
     'words: while let [count, names @ ..] = rest {
         let (name, others) = names.split_at(usize::from(*count % 32));
-        kernel_word(d, image, *count - *count % 32, name, number);
+        let header = Header {
+            view: 0,
+            flags: *count - *count % 32,
+            name,
+            code: number,
+        };
+        kernel_word(d, image, &header);
         rest = others;
         number += 1;
     }
 }
 
 // Defines a kernel word, which has space.
-fn kernel_word(d: &mut Dictionary, image: &mut [u8; 65536], flags: u8, name: &[u8], number: u16)
-    requires space { d.old.ends.dp + 9 + length name.now ≤ 32768 }
-    requires name { (flags ≤ 64) × ((1 ≤ length name.now) × ((length name.now ≤ 31) × (Ascii name.now))) }
-    ensures made { dict_of d.new image.new ≡ defined 0 flags (spelled name.now) number [] (dict_of d.old image.old) }
-    ensures dp { d.new.ends.dp ≡ d.old.ends.dp + 9 + length name.now }
+fn kernel_word(d: &mut Dictionary, image: &mut [u8; 65536], header: &Header<'_>)
+    requires { d.old.ends.dp + 9 + length header.now.name.now ≤ 32768 }
+    ensures made { dict_of d.new image.new ≡ defined header.now.view header.now.flags (spelled header.now.name.now) header.now.code [] (dict_of d.old image.old) }
+    ensures dp { d.new.ends.dp ≡ d.old.ends.dp + 9 + length header.now.name.now }
     ensures rest { Outside image.old image.new }
 {
-    d.define(image, 0, flags, name, number, &[], Place::nowhere())
-        .unwrap();
+    d.define(image, header, &[], Place::nowhere()).unwrap();
 }
 
 #[cfg(test)]
@@ -107,10 +111,13 @@ mod tests {
         assert_eq!(rt; d.search(&image, b"forth", told), Ok(Some(258)));
         assert_eq!(rt; d.search(&image, b"Dup", told), Ok(Some(282)));
         assert_eq!(rt; d.search(&image, b"SQ", told), Ok(None));
-        assert_eq!(rt;
-            d.define(&mut image, 0, 0, b"sq", 203, &[7, 0], told),
-            Ok(())
-        );
+        let constant = Header {
+            view: 0,
+            flags: 0,
+            name: b"sq",
+            code: 203,
+        };
+        assert_eq!(rt; d.define(&mut image, &constant, &[7, 0], told), Ok(()));
         assert_eq!(rt;
             (d.search(&image, b"SQ", told), d.ends.dp),
             (Ok(Some(1620)), 1631)

@@ -19,20 +19,25 @@ split_at-requires c =
     let h : c.from.result ≤ length (take (length rest - 1) (drop 1 rest)) = omega (arith, f.whole, c.from.ensures) in
     h
 
-pub kernel_word-requires-clause-space : goal.kernel_word-requires-clause-space
-kernel_word-requires-clause-space c =
+pub kernel_word-requires : goal.kernel_word-requires
+kernel_word-requires c =
     let rest = c.words.rest.now in
     let f = loading_first rest _ _ _ _ _ _ c.words.invariant.0 c.in-len1-up.len_at_least in
     let l = length-drop 1 rest in
     omega (arith, f.whole, c.from.ensures, c.split_at.ensures.front_len, c.words.invariant.0.room, c.requires.0, c.in-len1-up.len_at_least)
 
-pub kernel_word-requires-clause-name : goal.kernel_word-requires-clause-name
-kernel_word-requires-clause-name c =
+pub invariant_of-header : goal.invariant_of-header
+invariant_of-header c =
     let rest = c.words.rest.now in
     let f = loading_first rest _ _ _ _ _ _ c.words.invariant.0 c.in-len1-up.len_at_least in
     let front = c.split_at.ensures.front ∙ ap (take c.from.result) (all_behind rest) ∙ ap (λ n. take n (drop 1 rest)) c.from.ensures in
     let n = c.split_at.ensures.front_len in
-    (f.flags, (omega (arith, f.some, n, c.from.ensures), (omega (arith, n, c.from.ensures), λ i. subst (λ s. get_or s i 0 < 128) (sym front) (f.name i))))
+    record {
+      flagged = f.flags;
+      named = omega (arith, f.some, n, c.from.ensures);
+      short = omega (arith, n, c.from.ensures);
+      text = λ i. subst (λ s. get_or s i 0 < 128) (sym front) (f.name i);
+    }
 
 pub overflow_add-number : goal.overflow_add-number
 overflow_add-number c = omega (arith, c.words.invariant.0.few, c.requires.0, c.in-len1-up.len_at_least)

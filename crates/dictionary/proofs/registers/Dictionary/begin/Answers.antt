@@ -13,7 +13,7 @@ returns-in_err-room c =
     let p = err_from_is_err_and c.from_residual.result c.from_residual.ensures.1 in
     let h = c.in_err-room.ensures in
     record {
-      did = refused (9 + length c.args.name.now + length c.args.rest.now) c.args.told c.args.self.now.ends.dp (dict_of c.args.self.now c.args.image.now) _ _ p.0 l p.1 (p.2 ∙ h.1) h.0;
+      did = refused (9 + length c.args.header.now.name.now + length c.args.rest.now) c.args.told c.args.self.now.ends.dp (dict_of c.args.self.now c.args.image.now) _ _ p.0 l p.1 (p.2 ∙ h.1) h.0;
       end = rw p.1 tt;
       rest = outside_none _;
     }
@@ -22,9 +22,9 @@ pub returns : goal.returns
 returns c =
     let l = length_low c.args.self.now.ends.dp c.args.image.now (omega arith) (omega arith) in
     record {
-      did = accepted (9 + length c.args.name.now + length c.args.rest.now) c.args.told c.args.self.now.ends.dp (dict_of c.args.self.now c.args.image.now) _ _ l c.in_ok-room.ensures
+      did = accepted (9 + length c.args.header.now.name.now + length c.args.rest.now) c.args.told c.args.self.now.ends.dp (dict_of c.args.self.now c.args.image.now) _ _ l c.in_ok-room.ensures
           (begun_made (dict_of c.args.self.now c.args.image.now) (dict_of c.put_header.new.self c.put_header.new.image) (dict_of c.put_cell.new.self c.put_cell.new.image) (dict_of c.put.new.self c.put.new.image)
-          c.args.view c.args.flags (spelled c.args.name.now) c.args.code c.args.rest.now c.put_header.ensures.made c.put_cell.ensures.made c.put.ensures.made);
+          c.args.header.now.view c.args.header.now.flags (spelled c.args.header.now.name.now) c.args.header.now.code c.args.rest.now c.put_header.ensures.made c.put_cell.ensures.made c.put.ensures.made);
       end = omega (arith, c.put_header.ensures.dp, c.put_cell.ensures.dp, c.put.ensures.dp);
       rest = outside_then c.put_header.ensures.rest (outside_then c.put_cell.ensures.rest c.put.ensures.rest);
     }
