@@ -14,11 +14,8 @@ use Rattle.steps.specs.Seats.{told_by}
 use Rattle.steps.specs.Does.{seen}
 use Rattle.entries.specs.Threads.{Ascii}
 use Rattle.texts.specs.declared.name.Name.{Name}
-use Rattle.texts.specs.Texts.{word_in, WordInside, TookWord}
+use Rattle.texts.specs.Texts.{word_in, NoneLeft, TookWord}
 use Rattle.texts.specs.Names.{graphic, name_of, TookName}
-
-true_not_false : true ≡ false → ⊥
-true_not_false e = let z : ◌≡◌ {A = ℕ} 0 1 = cc in omega arith
 
 -- each byte is one of a name
 abbrev pub are_graphic : List ℕ → Bool
@@ -112,22 +109,16 @@ asked_good m m' bs h e g =
     ap (λ b. ask m NothingFollows b >> judged (next_word m)) (some (length (next_word m).bytes) h) ∙ ap judged e ∙ ap (λ b. ask m' BadName b >> given (record { machine = m'; bytes = bs })) g
 
 module _ (r r' : Registers) (i : List ℕ) where
-  pub nothing_follows : (b : Bool) (e : Fault) → b ≡ false → TookWord r i b r' → e ≡ fault_of NothingFollows (told_by r'.seat) → TookName r i (Err e) r'
-  nothing_follows true e z w p = absurd (true_not_false z)
-  nothing_follows false e z w p = λ c t k s.
+  pub nothing_follows : (e : Fault) → NoneLeft r i r' → e ≡ fault_of NothingFollows (told_by r'.seat) → TookName r i (Err e) r'
+  nothing_follows e w p = λ c t k s.
       rw (asked_none (seen r i c t k s) (w.1 c t k s)) (p ∙ ap (λ (x : Registers). fault_of NothingFollows (told_by x.seat)) w.0, ap (λ (x : Registers). cleared (seen x i c t k s)) (sym w.0))
 
-  pub bad_name : (b : Bool) (e : Fault) → b ≡ true → TookWord r i b r' → is_name (word_in r'.seat i) ≡ false → e ≡ fault_of BadName (told_by r'.seat) → TookName r i (Err e) r'
-  bad_name true e z w g p = λ c t k s.
-      rw (asked_bad (seen r i c t k s) (seen r' i c t k s) (word_in r'.seat i) (w.1 c t k s).0 (w.1 c t k s).1 g) (p, refl)
-  bad_name false e z w g p = absurd (true_not_false (sym z))
+  module _ (word : List ℕ) (w : TookWord r i word r') where
+    pub bad_name : (e : Fault) → is_name word ≡ false → e ≡ fault_of BadName (told_by r'.seat) → TookName r i (Err e) r'
+    bad_name e g p = λ c t k s.
+        rw (asked_bad (seen r i c t k s) (seen r' i c t k s) (word_in r'.seat i) (w.2 c t k s).0 (w.2 c t k s).1 (ap is_name (sym w.1) ∙ g)) (p, refl)
 
-  pub named : (b : Bool) (n : Name) → b ≡ true → TookWord r i b r' → is_name (word_in r'.seat i) ≡ true → name_of n ≡ word_in r'.seat i → TookName r i (Ok n) r'
-  named true n z w g e = λ c t k s.
-      asked_good (seen r i c t k s) (seen r' i c t k s) (word_in r'.seat i) (w.1 c t k s).0 (w.1 c t k s).1 g
-      ∙ ap (λ (x : List ℕ). given (record { machine = seen r' i c t k s; bytes = x })) (sym e)
-  named false n z w g e = absurd (true_not_false (sym z))
-
-  pub is_inside : (b : Bool) → b ≡ true → TookWord r i b r' → WordInside r'.seat
-  is_inside true z w = w.0
-  is_inside false z w = absurd (true_not_false (sym z))
+    pub named : (n : Name) → is_name word ≡ true → name_of n ≡ word → TookName r i (Ok n) r'
+    named n g e = λ c t k s.
+        asked_good (seen r i c t k s) (seen r' i c t k s) (word_in r'.seat i) (w.2 c t k s).0 (w.2 c t k s).1 (ap is_name (sym w.1) ∙ g)
+        ∙ ap (λ (x : List ℕ). given (record { machine = seen r' i c t k s; bytes = x })) (sym (e ∙ w.1))

@@ -14,8 +14,8 @@ use Rattle.definition.specs.Machine.{Machine, offset, reading_on}
 use Rattle.definition.specs.Text.{Taken, separates, gap, word_length, text_of, next_word, no_word_left}
 use Rattle.definition.specs.View.{lent, view_of}
 use Rattle.steps.specs.Does.{seen}
-use Rattle.texts.specs.Texts.{text_start, text_length, text_in, word_in, other, read_to, NextIs, TookWord}
-use Rattle.texts.proofs.Runs.{gap_is, word_is}
+use Rattle.texts.specs.Texts.{text_start, text_length, text_in, word_in, other, read_to, NextIs, NoneLeft, TookWord}
+use Rattle.texts.proofs.Runs.{gap_is, word_is, run_in}
 
 buffer_in : (n : ℕ) (i : List ℕ) → 34048 ≤ n → take 1024 (drop 256 (high_of n i)) ≡ take 1024 (drop 33024 i)
 unfolding high_of
@@ -59,10 +59,10 @@ text_long r i l = let b = text_low r in length-take-le (text_length r.seat) (dro
 abbrev placed : List ℕ → ℕ → LastWord
 placed text from = record { start = from + gap (drop from text); length = word_length (drop (gap (drop from text)) (drop from text)) }
 
-placed_is : (text : List ℕ) (from start end : ℕ) → start ≡ from + prefix_len separates (drop from text) → end ≡ start + prefix_len other (drop start text) → placed text from ≡ record { start = start; length = end - start }
-placed_is text from start end p q =
+placed_is : (text : List ℕ) (from start n : ℕ) → start ≡ from + prefix_len separates (drop from text) → n ≡ prefix_len other (drop start text) → placed text from ≡ record { start = start; length = n }
+placed_is text from start n p q =
     let g : from + gap (drop from text) ≡ start = ap (λ n. from + n) (gap_is (drop from text)) ∙ sym p in
-    let w : word_length (drop (gap (drop from text)) (drop from text)) ≡ end - start = word_is (drop (gap (drop from text)) (drop from text)) ∙ ap (prefix_len other) (drop-drop (gap (drop from text)) from text ∙ ap (λ n. drop n text) g) ∙ omega arith in
+    let w : word_length (drop (gap (drop from text)) (drop from text)) ≡ n = word_is (drop (gap (drop from text)) (drop from text)) ∙ ap (prefix_len other) (drop-drop (gap (drop from text)) from text ∙ ap (λ n. drop n text) g) ∙ sym q in
     ap (λ n. record { start = n; length = word_length (drop (gap (drop from text)) (drop from text)) }) g ∙ ap (λ n. record { start = start; length = n }) w
 
 -- it lies in the text, if there is one
@@ -75,6 +75,10 @@ placed_in text from h =
     let b = length-drop from text in
     omega arith
 
+-- where the next word begins: so many separators come first in the rest of the text
+pub begins : (r : Registers) (i : List ℕ) (o n : ℕ) (rest x : List ℕ) → o ≡ r.seat.source.position.offset → n ≡ prefix_len separates rest → rest ≡ drop o x → x ≡ text_in r.seat i → o + n ≡ r.seat.source.position.offset + prefix_len separates (drop r.seat.source.position.offset (text_in r.seat i))
+begins r i o n rest x a e d b = ap (λ z. z + n) a ∙ ap (λ z. r.seat.source.position.offset + z) (run_in separates n o r.seat.source.position.offset rest x (text_in r.seat i) e d a b)
+
 module _ (r : Registers) (i : List ℕ) (li : length i ≡ 65536) where
   abbrev text : List ℕ
   text = text_in r.seat i
@@ -82,35 +86,34 @@ module _ (r : Registers) (i : List ℕ) (li : length i ≡ 65536) where
   abbrev from : ℕ
   from = r.seat.source.position.offset
 
-  module _ (start end : ℕ) (p : start ≡ from + prefix_len separates (drop from text)) (q : end ≡ start + prefix_len other (drop start text)) where
-    pub next_is : NextIs r i (record { start = start; length = end - start })
-    next_is c t k s = ap (λ (x : List ℕ). placed x from) (text_seen r i c t k s) ∙ placed_is text from start end p q
+  pub start_short : (start : ℕ) → start ≡ from + prefix_len separates (drop from text) → start ≤ 1024
+  start_short start p =
+      let a = prefix_len-le-length separates (drop from text) in
+      let b = length-drop from text in
+      let l = text_long r i li in
+      let m = text_short r in
+      let o = r.text in
+      omega arith
 
-    pub next_inside : 1 ≤ end - start → start + (end - start) ≤ text_length r.seat
+  module _ (start n : ℕ) (p : start ≡ from + prefix_len separates (drop from text)) (q : n ≡ prefix_len other (drop start text)) where
+    pub next_is : NextIs r i (record { start = start; length = n })
+    next_is c t k s = ap (λ (x : List ℕ). placed x from) (text_seen r i c t k s) ∙ placed_is text from start n p q
+
+    pub next_inside : 1 ≤ n → start + n ≤ text_length r.seat
     next_inside h =
-        let e = placed_is text from start end p q in
+        let e = placed_is text from start n p q in
         let l = text_long r i li in
         let a : (placed text from).start ≡ start = ap (λ (w : LastWord). w.start) e in
-        let b : (placed text from).length ≡ end - start = ap (λ (w : LastWord). w.length) e in
+        let b : (placed text from).length ≡ n = ap (λ (w : LastWord). w.length) e in
         let d = placed_in text from (omega arith) in
         omega arith
 
-    pub start_short : start ≤ 1024
-    start_short =
-        let a = prefix_len-le-length separates (drop from text) in
-        let b = length-drop from text in
-        let l = text_long r i li in
-        let m = text_short r in
-        let o = r.text in
-        omega arith
-
-    pub end_short : end ≤ 1024
-    end_short =
+    pub word_short : n ≤ 1024
+    word_short =
         let a = prefix_len-le-length other (drop start text) in
         let b = length-drop start text in
         let l = text_long r i li in
         let m = text_short r in
-        let o = start_short in
         omega arith
 
 -- the machine behind what was read
@@ -135,12 +138,13 @@ left_by_lem : (m : Machine) (n : ℕ) → (next_word m).machine.text.source.word
 left_by_lem m n e = ap (λ x. eqb x 0) (next_length m ∙ e)
 
 module _ (r : Registers) (i : List ℕ) (li : length i ≡ 65536) (w : LastWord) (next : NextIs r i w) where
-  pub none_left : w.length ≡ 0 → TookWord r i false r
+  pub none_left : w.length ≡ 0 → NoneLeft r i r
   none_left h = (refl, λ c t k s. left_by_lem (seen r i c t k s) 0 (ap (λ (x : LastWord). x.length) (next c t k s) ∙ h))
 
-  pub took : (r' : Registers) → 1 ≤ w.length → w.start + w.length ≤ text_length r.seat → r'.shared ≡ r.shared → r'.seat ≡ read_to (min (text_length r.seat) (w.start + w.length + 1)) w r.seat → TookWord r i true r'
-  took r' h b p q = (
+  pub took : (r' : Registers) (word : List ℕ) → 1 ≤ w.length → w.start + w.length ≤ text_length r.seat → r'.shared ≡ r.shared → r'.seat ≡ read_to (min (text_length r.seat) (w.start + w.length + 1)) w r.seat → word ≡ word_in r'.seat i → TookWord r i word r'
+  took r' word h b p q e = (
     rw q b,
+    e,
     λ c t k s.
         let m = seen r i c t k s in
         let o : eqb w.length 0 ≡ false = grind (arith, nat_tests) in (

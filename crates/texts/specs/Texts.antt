@@ -43,7 +43,10 @@ read_to n w t = record { order = t.order; flow = t.flow; depths = t.depths; sour
 abbrev pub NextIs : Registers → List ℕ → LastWord → Type 0
 NextIs r i w = (c t : List ℕ) (k : List Mark) (s : Meaning) → (next_word (seen r i c t k s)).machine.text.source.word ≡ w
 
--- a word was left and was taken, or none was left
-abbrev pub TookWord : Registers → List ℕ → Bool → Registers → Type 0
-TookWord r i true r' = WordInside r'.seat × ((c t : List ℕ) (k : List Mark) (s : Meaning) → (no_word_left (seen r i c t k s) ≡ false) × (next_word (seen r i c t k s) ≡ record { machine = seen r' i c t k s; bytes = word_in r'.seat i }))
-TookWord r i false r' = (r' ≡ r) × ((c t : List ℕ) (k : List Mark) (s : Meaning) → no_word_left (seen r i c t k s) ≡ true)
+-- none was left
+abbrev pub NoneLeft : Registers → List ℕ → Registers → Type 0
+NoneLeft r i r' = (r' ≡ r) × ((c t : List ℕ) (k : List Mark) (s : Meaning) → no_word_left (seen r i c t k s) ≡ true)
+
+-- a word was left and was taken: these bytes of the text
+abbrev pub TookWord : Registers → List ℕ → List ℕ → Registers → Type 0
+TookWord r i word r' = WordInside r'.seat × (word ≡ word_in r'.seat i) × ((c t : List ℕ) (k : List Mark) (s : Meaning) → (no_word_left (seen r i c t k s) ≡ false) × (next_word (seen r i c t k s) ≡ record { machine = seen r' i c t k s; bytes = word_in r'.seat i }))

@@ -6,7 +6,6 @@ ghost use Rattle.definition.specs.Text.{is_name};
 pub struct Name {
     pub(crate) bytes: [u8; 31],
     pub(crate) count: u8,
-    ghost size: { length bytes ≡ 31 },
     ghost within: { count ≤ 31 },
     ghost named: { is_name (take count bytes) ≡ true },
 }

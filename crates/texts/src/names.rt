@@ -1,11 +1,12 @@
 // Names: words of 1 to 31 bytes from 33 to 126.
 ghost use Rattle.std.specs.Prelude.{◌≡◌, ◌≤◌, true, length};
 ghost use Rattle.definition.specs.Text.{is_name};
+ghost use Rattle.std.specs.List.{list_all};
 ghost use Rattle.entries.specs.Threads.{Ascii};
 ghost use Rattle.texts.specs.Names.{TookName, graphic, name_of};
 
 use super::name::Name;
-use super::words::{last_word, take_word};
+use super::words::take_word;
 use definition::ranged::Registers;
 use fault::{Fault, Reason};
 use steps::faults::refusal;
@@ -31,22 +32,20 @@ impl Name {
 fn is_graphic(byte: u8) -> bool
     ensures { result ≡ graphic byte }
 {
-    33 <= byte && byte <= 126
+    (33..=126).contains(&byte)
+}
+
+fn are_graphic(word: &[u8]) -> bool
+    ensures { result ≡ list_all graphic word.now }
+{
+    word.iter().all(|byte| is_graphic(*byte))
 }
 
 // Is a word a name?
 pub fn is_name(word: &[u8]) -> bool
     ensures { result ≡ is_name word.now }
 {
-    if word.len() == 0 || word.len() > 31 {
-        return false;
-    }
-    for byte in word {
-        if !is_graphic(*byte) {
-            return false;
-        }
-    }
-    true
+    (1..=31).contains(&word.len()) && are_graphic(word)
 }
 
 fn copied(word: &[u8]) -> Name
@@ -62,15 +61,13 @@ fn copied(word: &[u8]) -> Name
 }
 
 // Takes a word that must be a name.
-pub fn take_name(registers: &mut Registers, image: &[u8]) -> Result<Name, Fault>
-    requires { length image.now ≡ 65536 }
+pub fn take_name(registers: &mut Registers, image: &[u8; 65536]) -> Result<Name, Fault>
     ensures shared { registers.new.shared ≡ registers.old.shared }
     ensures took { TookName registers.old image.now result registers.new }
 {
-    if !take_word(registers, image) {
+    let Some(word) = take_word(registers, image) else {
         return Err(refusal(registers, Reason::NothingFollows));
-    }
-    let word = last_word(registers, image);
+    };
     if !is_name(word) {
         return Err(refusal(registers, Reason::BadName));
     }

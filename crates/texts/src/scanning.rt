@@ -1,40 +1,35 @@
-// Runs of bytes in a text.
-ghost use Rattle.std.specs.Prelude.{◌≡◌, ◌+◌, length, drop};
+// Runs of bytes at the beginning of a text.
+ghost use Rattle.std.specs.Prelude.{◌≡◌, drop};
 ghost use Rattle.definition.specs.Text.{separates};
 ghost use Rattle.std.specs.List.{prefix_len};
 ghost use Rattle.texts.specs.Texts.{differs, other};
 
 use definition::text::is_separator;
 
-// Where the separators from a place on end.
-pub(crate) fn behind_separators(text: &[u8], from: usize) -> usize
-    ensures { result ≡ from + prefix_len separates (drop from text.now) }
+// The text from a place on; nothing where it has no such place.
+pub(crate) fn rest_of(text: &[u8], from: usize) -> &[u8]
+    ensures { result.now ≡ drop from text.now }
 {
-    let mut i = from;
-    while i < text.len() && is_separator(text[i]) {
-        i += 1;
-    }
-    i
+    text.get(from..).unwrap_or(&[])
 }
 
-// Where the other bytes from a place on end.
-pub(crate) fn behind_word(text: &[u8], from: usize) -> usize
-    ensures { result ≡ from + prefix_len other (drop from text.now) }
+// How many separators come first.
+pub(crate) fn separators(text: &[u8]) -> usize
+    ensures { result ≡ prefix_len separates text.now }
 {
-    let mut i = from;
-    while i < text.len() && !is_separator(text[i]) {
-        i += 1;
-    }
-    i
+    text.iter().take_while(|byte| is_separator(**byte)).count()
 }
 
-// Where the first such byte from a place on lies, or where the text ends.
-pub(crate) fn place_of(text: &[u8], from: usize, byte: u8) -> usize
-    ensures { result ≡ from + prefix_len (differs byte) (drop from text.now) }
+// How many other bytes come first.
+pub(crate) fn word_length(text: &[u8]) -> usize
+    ensures { result ≡ prefix_len other text.now }
 {
-    let mut i = from;
-    while i < text.len() && text[i] != byte {
-        i += 1;
-    }
-    i
+    text.iter().take_while(|byte| !is_separator(**byte)).count()
+}
+
+// How many bytes come before the first such byte, or in all.
+pub(crate) fn length_before(text: &[u8], byte: u8) -> usize
+    ensures { result ≡ prefix_len (differs byte) text.now }
+{
+    text.iter().take_while(|x| **x != byte).count()
 }

@@ -1,8 +1,8 @@
 // The text up to a byte, as `(` and `."` take it.
-ghost use Rattle.std.specs.Prelude.{◌≡◌, ◌+◌, ◌≤◌, ◌&&◌, length, nat_le, nat_lt};
+ghost use Rattle.std.specs.Prelude.{◌≡◌, ◌+◌, ◌≤◌, ◌&&◌, nat_le, nat_lt};
 ghost use Rattle.texts.specs.Strings.{TookTo};
 
-use super::scanning::place_of;
+use super::scanning::{length_before, rest_of};
 use super::words::{read_to, text_of, text_start};
 use definition::ranged::Registers;
 use fault::{Fault, Reason};
@@ -19,17 +19,17 @@ fn in_time(from: usize, end: usize, length: usize, most: usize) -> bool
 // Takes the text up to the next such byte, at most so many bytes: where it begins and ends in the image.
 pub fn take_to(
     registers: &mut Registers,
-    image: &[u8],
+    image: &[u8; 65536],
     byte: u8,
     most: usize,
 ) -> Result<(usize, usize), Fault>
-    requires { (length image.now ≡ 65536) × (most ≤ 1024) }
+    requires { most ≤ 1024 }
     ensures shared { registers.new.shared ≡ registers.old.shared }
     ensures took { TookTo byte most registers.old image.now result registers.new }
 {
     let text = text_of(registers, image);
     let from = usize::from(registers.seat.source.position.offset);
-    let end = place_of(text, from, byte);
+    let end = from + length_before(rest_of(text, from), byte);
     if !in_time(from, end, text.len(), most) {
         return Err(refusal(registers, Reason::NothingFollows));
     }

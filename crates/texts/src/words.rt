@@ -1,8 +1,8 @@
 // The next word of the text, and the last one taken.
-ghost use Rattle.std.specs.Prelude.{◌≡◌, ◌+◌, ◌≤◌, min, length};
-ghost use Rattle.texts.specs.Texts.{NextIs, TookWord, WordInside, read_to, text_in, text_length, text_start, word_in};
+ghost use Rattle.std.specs.Prelude.{◌≡◌, ◌+◌, ◌≤◌, min, MatchOption};
+ghost use Rattle.texts.specs.Texts.{NextIs, NoneLeft, TookWord, WordInside, read_to, text_in, text_length, text_start, word_in};
 
-use super::scanning::{behind_separators, behind_word};
+use super::scanning::{rest_of, separators, word_length};
 use definition::ranged::Registers;
 use definition::registers::LastWord;
 
@@ -35,8 +35,7 @@ fn text_length(registers: &Registers) -> u16
 }
 
 // The text.
-pub(crate) fn text_of<'a>(registers: &Registers, image: &'a [u8]) -> &'a [u8]
-    requires { length image.now ≡ 65536 }
+pub(crate) fn text_of<'a>(registers: &Registers, image: &'a [u8; 65536]) -> &'a [u8]
     ensures { result.now ≡ text_in registers.now.seat image.now }
 {
     let start = text_start(registers);
@@ -45,17 +44,17 @@ pub(crate) fn text_of<'a>(registers: &Registers, image: &'a [u8]) -> &'a [u8]
 }
 
 // Where the next word lies in the text; its length is 0 where none is left.
-pub fn next_word(registers: &Registers, image: &[u8]) -> LastWord
-    requires { length image.now ≡ 65536 }
+pub fn next_word(registers: &Registers, image: &[u8; 65536]) -> LastWord
     ensures place { NextIs registers.now image.now result }
     ensures inside { 1 ≤ result.length → result.start + result.length ≤ text_length registers.now.seat }
 {
     let text = text_of(registers, image);
-    let start = behind_separators(text, usize::from(registers.seat.source.position.offset));
-    let end = behind_word(text, start);
+    let offset = usize::from(registers.seat.source.position.offset);
+    let start = offset + separators(rest_of(text, offset));
+    let length = word_length(rest_of(text, start));
     LastWord {
         start: start as u16,
-        length: (end - start) as u16,
+        length: length as u16,
     }
 }
 
@@ -64,8 +63,7 @@ fn behind_one(length: u16, word: LastWord) -> u16
     requires { (length ≤ 1024) × (word.start + word.length ≤ 1024) }
     ensures { result ≡ min length (word.start + word.length + 1) }
 {
-    let end = word.start + word.length;
-    if end < length { end + 1 } else { length }
+    length.min(word.start + word.length + 1)
 }
 
 // Text goes on at >IN, and this was the last word.
@@ -79,23 +77,22 @@ pub(crate) fn read_to(registers: &mut Registers, offset: u16, word: LastWord)
 }
 
 // Takes the next word; where none is left, nothing changes.
-pub fn take_word(registers: &mut Registers, image: &[u8]) -> bool
-    requires { length image.now ≡ 65536 }
+pub fn take_word<'a>(registers: &mut Registers, image: &'a [u8; 65536]) -> Option<&'a [u8]>
     ensures shared { registers.new.shared ≡ registers.old.shared }
-    ensures took { TookWord registers.old image.now result registers.new }
+    ensures took { MatchOption result (NoneLeft registers.old image.now registers.new) (λ word. TookWord registers.old image.now word.now registers.new) }
 {
     let word = next_word(registers, image);
     if word.length == 0 {
-        return false;
+        return None;
     }
     let offset = behind_one(text_length(registers), word);
     read_to(registers, offset, word);
-    true
+    Some(last_word(registers, image))
 }
 
 // The bytes of the word just taken.
-pub fn last_word<'a>(registers: &Registers, image: &'a [u8]) -> &'a [u8]
-    requires { (length image.now ≡ 65536) × (WordInside registers.now.seat) }
+pub fn last_word<'a>(registers: &Registers, image: &'a [u8; 65536]) -> &'a [u8]
+    requires { WordInside registers.now.seat }
     ensures { result.now ≡ word_in registers.now.seat image.now }
 {
     let text = text_of(registers, image);
