@@ -25,7 +25,7 @@ use Rattle.steps.specs.Does.{seen, acts}
 use Rattle.steps.proofs.Exits.{has_cells_lem, lacks_cells}
 use Rattle.space_words.specs.Numbers.{reachable}
 use Rattle.space_words.proofs.Written.{reach_is}
-use Rattle.typing_words.specs.Numbers.{counted, inside}
+use Rattle.typing_words.specs.Numbers.{counted, inside, number_text, number_word}
 use Rattle.typing_words.proofs.Parts.{high_part, low_part}
 use Rattle.typing_words.proofs.Ends.{Comes}
 
@@ -62,19 +62,23 @@ pub record TypesNumber (v : ℕ) (text : ℕ → ℕ → List ℕ) : Type 0 wher
   pub bad : (again : ℕ → Machine → Asked After) (a : Argument) (m : Machine) → has_cells 1 m ≡ true → is_base (base m) ≡ false → acts v again a m ≡ refused BadBase m
   pub typed : (again : ℕ → Machine → Asked After) (a : Argument) (m : Machine) → has_cells 1 m ≡ true → is_base (base m) ≡ true → acts v again a m ≡ typing (text (base m) (nth 0 m) ++ (32 ∷ [])) (popped 1 m)
 
-pub dot_types : TypesNumber 49 signed_text
+dot_types : TypesNumber 49 signed_text
 dot_types = record {
   short = λ again a m h. dot_acts again a m ∙ rw h;
   bad = λ again a m h k. dot_acts again a m ∙ rw (h, k);
   typed = λ again a m h k. dot_acts again a m ∙ rw (h, k);
 }
 
-pub u_dot_types : TypesNumber 50 unsigned_text
+u_dot_types : TypesNumber 50 unsigned_text
 u_dot_types = record {
   short = λ again a m h. u_dot_acts again a m ∙ rw h;
   bad = λ again a m h k. u_dot_acts again a m ∙ rw (h, k);
   typed = λ again a m h k. u_dot_acts again a m ∙ rw (h, k);
 }
+
+pub number_types : (signed : Bool) → TypesNumber (number_word signed) (number_text signed)
+number_types true = dot_types
+number_types false = u_dot_types
 
 type_typed : (m : Machine) → has_cells 2 m ≡ true → in_reach (nth 1 m) (counted (nth 0 m)) m ≡ true → do_typing Kernel.type m ≡ typing (take (counted (nth 0 m)) (drop (nth 1 m - 32768) m.high)) (popped 2 m)
 type_typed m h k = rw (h, k)

@@ -1,7 +1,7 @@
 -- What is typed, read from the image or made on the spot.
 use Rattle.std.proofs.Common.{◌≡◌, ℕ, ◌+◌, ◌-◌, ◌<◌, ◌≤◌, true, ◌⊎◌, List, [], ◌∷◌, ◌++◌, length, take, drop, replicate, sym, ap, ◌∙◌, inl, inr, arith, drop-cons}
 use lib.Seq.{take-append-add, drop-append-add}
-use Rattle.std.proofs.lemmas.List.{length-append, length-drop, length-take-le, get_or-replicate, take-take, drop-take, drop-drop}
+use Rattle.std.proofs.lemmas.List.{get_or-replicate, take-take, drop-take, drop-drop}
 use Rattle.image.specs.Cells.{zeros}
 use Rattle.image.specs.Views.{low_of, high_of}
 use Rattle.space_words.specs.Numbers.{reachable}
@@ -45,21 +45,10 @@ blank w h =
     let l : w < 18 = omega arith in
     ap (take 1) (drop-cons (replicate 18 32) w 0 l) ∙ ap (λ y. y ∷ []) (get_or-replicate 18 w 32 0 l)
 
-pub within : (w : ℕ) → w ≤ 16 → w ≤ 17
-within w h = omega arith
-
-module _ (text ys : List ℕ) (w : ℕ) (e : w ≡ length text) (p : ys ≡ text) (b : w ≤ 17) where
-  pub numeral_typed : take (w + 1) (ys ++ drop w (replicate 18 32)) ≡ text ++ (32 ∷ [])
-  numeral_typed =
-      ap (λ (y : List ℕ). take (w + 1) (y ++ drop w (replicate 18 32))) p
-      ∙ ap (λ y. take (y + 1) (text ++ drop w (replicate 18 32))) e
-      ∙ take-append-add text (drop w (replicate 18 32)) 1
-      ∙ ap (λ (y : List ℕ). text ++ y) (blank w b)
-
-  pub numeral_long : w + 1 ≤ length (ys ++ drop w (replicate {A = ℕ} 18 32))
-  numeral_long =
-      let f : length ys ≡ w = ap length p ∙ sym e in
-      simp (length-append, length-drop) (omega arith)
-
-  pub numeral_length : w + 1 ≡ length (take (w + 1) (ys ++ drop w (replicate {A = ℕ} 18 32)))
-  numeral_length = sym (length-take-le (w + 1) (ys ++ drop w (replicate 18 32)) numeral_long)
+pub numeral_typed : (text ys z : List ℕ) (w : ℕ) → w ≡ length text → ys ≡ text → z ≡ replicate 18 32 → w ≤ 17 → take (w + 1) (ys ++ drop w z) ≡ text ++ (32 ∷ [])
+numeral_typed text ys z w e p q b =
+    ap (λ (y : List ℕ). take (w + 1) (y ++ drop w z)) p
+    ∙ ap (λ (y : List ℕ). take (w + 1) (text ++ drop w y)) q
+    ∙ ap (λ y. take (y + 1) (text ++ drop w (replicate 18 32))) e
+    ∙ take-append-add text (drop w (replicate 18 32)) 1
+    ∙ ap (λ (y : List ℕ). text ++ y) (blank w b)

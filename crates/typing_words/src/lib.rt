@@ -1,6 +1,6 @@
 // The kernel words that type.
 #![tactic(auto)]
 
-mod output;
+pub mod output;
 pub mod typing;
 pub mod words;

@@ -1,51 +1,52 @@
 // The output: lent bytes, of which the first are typed. Nothing else writes to it.
 ghost use Rattle.std.specs.Prelude.{◌≡◌, ◌+◌, ◌-◌, ◌≤◌, length, replicate, nat_le};
-ghost use Rattle.steps.specs.Does.{Grows};
-ghost use Rattle.typing_words.specs.Output.{Types};
 
-// Is there space for n bytes more?
-fn fits(out: &[u8], typed: usize, n: usize) -> bool
-    requires { typed ≤ length out.now }
-    ensures { result ≡ nat_le n (length out.now - typed) }
-{
-    n <= out.len() - typed
+#[derive(Drop)]
+pub struct Output<'a> {
+    pub bytes: &'a mut [u8],
+    pub typed: usize,
+    ghost within: { typed ≤ length bytes.now },
 }
 
-fn add(out: &mut [u8], typed: &mut usize, bytes: &[u8])
-    requires { typed.old + length bytes.now ≤ length out.old }
-    ensures { Grows out.old typed.old bytes.now out.new typed.new }
-{
-    *typed = image::append(out, *typed, bytes);
-}
+impl<'a> Output<'a> {
+    ghost use Rattle.steps.specs.Does.{Grows};
+    ghost use Rattle.typing_words.specs.Output.{Types};
 
-fn add_blanks(out: &mut [u8], typed: &mut usize, n: usize)
-    requires { typed.old + n ≤ length out.old }
-    ensures { Grows out.old typed.old (replicate n 32) out.new typed.new }
-{
-    image::fill(out, *typed, n, b' ');
-    *typed += n;
-}
-
-// Types bytes, if they fit.
-pub(crate) fn type_bytes(out: &mut [u8], typed: &mut usize, bytes: &[u8]) -> bool
-    requires { typed.old ≤ length out.old }
-    ensures { Types out.old typed.old bytes.now result out.new typed.new }
-{
-    if !fits(out, *typed, bytes.len()) {
-        return false;
+    // Nothing is typed yet.
+    pub fn new(bytes: &'a mut [u8]) -> Output<'a>
+        ensures bytes { result.bytes.now ≡ bytes.old }
+        ensures typed { result.typed ≡ 0 }
+    {
+        Output { bytes, typed: 0 }
     }
-    add(out, typed, bytes);
-    true
-}
 
-// Types n blanks, if they fit.
-pub(crate) fn type_blanks(out: &mut [u8], typed: &mut usize, n: usize) -> bool
-    requires { typed.old ≤ length out.old }
-    ensures { Types out.old typed.old (replicate n 32) result out.new typed.new }
-{
-    if !fits(out, *typed, n) {
-        return false;
+    // Is there space for n bytes more?
+    fn has_space(&self, n: usize) -> bool
+        ensures { result ≡ nat_le n (length self.now.bytes.now - self.now.typed) }
+    {
+        n <= self.bytes.len() - self.typed
     }
-    add_blanks(out, typed, n);
-    true
+
+    // Types bytes, if they fit.
+    pub(crate) fn type_bytes(&mut self, bytes: &[u8]) -> bool
+        ensures { Types self.old.bytes.now self.old.typed bytes.now result self.new.bytes.now self.new.typed }
+    {
+        if !self.has_space(bytes.len()) {
+            return false;
+        }
+        self.typed = image::append(self.bytes, self.typed, bytes);
+        true
+    }
+
+    // Types n blanks, if they fit.
+    pub(crate) fn type_blanks(&mut self, n: usize) -> bool
+        ensures { Types self.old.bytes.now self.old.typed (replicate n 32) result self.new.bytes.now self.new.typed }
+    {
+        if !self.has_space(n) {
+            return false;
+        }
+        image::fill(self.bytes, self.typed, n, b' ');
+        self.typed += n;
+        true
+    }
 }

@@ -1,15 +1,15 @@
 // Typing numbers, bytes and blanks.
-ghost use Rattle.std.specs.Prelude.{◌≡◌, ◌+◌, ◌%◌, ◌≤◌, true, false, length, MatchResult, slice_index};
+ghost use Rattle.std.specs.Prelude.{◌≡◌, ◌+◌, ◌%◌, ◌≤◌, true, false, [], ◌∷◌, ◌++◌, replicate, take, MatchResult, slice_index};
 ghost use Rattle.fault.specs.Numbers.{fault_of};
 ghost use Rattle.fault.specs.declared.Reason.TheVariants.{BadBase, BadToken};
 ghost use Rattle.image.specs.Cells.{cell_at};
 ghost use Rattle.numbers.specs.Text.{is_base};
 ghost use Rattle.steps.specs.Does.{OnOutput};
 ghost use Rattle.steps.specs.Seats.{told_by, with_pointer};
-ghost use Rattle.typing_words.specs.Numbers.{counted, inside, typing_number};
+ghost use Rattle.typing_words.specs.Numbers.{counted, inside, number_text, number_word, typing_number};
 ghost use Rattle.typing_words.specs.Output.{Releases};
 
-use super::output::{type_blanks, type_bytes};
+use super::output::Output;
 use super::words::TypingWord;
 use definition::ranged::Registers;
 use fault::{Fault, Reason};
@@ -19,8 +19,8 @@ use steps::faults::refusal;
 use steps::progress::Progress;
 
 // Lets n cells go if what the word types fitted.
-fn finish(registers: &mut Registers, cells: &[u16], n: usize, fitted: bool) -> Progress
-    requires { (length cells.now ≡ 128) × (n ≤ registers.old.seat.depths.cells) }
+fn finish(registers: &mut Registers, cells: &[u16; 128], n: usize, fitted: bool) -> Progress
+    requires { n ≤ registers.old.seat.depths.cells }
     ensures { Releases fitted n registers.old cells.now result registers.new }
 {
     if !fitted {
@@ -31,8 +31,7 @@ fn finish(registers: &mut Registers, cells: &[u16], n: usize, fitted: bool) -> P
 }
 
 // BASE, if there are digits in it.
-fn base_of(registers: &Registers, image: &[u8]) -> Result<u16, Fault>
-    requires { length image.now ≡ 65536 }
+fn base_of(registers: &Registers, image: &[u8; 65536]) -> Result<u16, Fault>
     ensures { MatchResult result (λ b. (b ≡ cell_at image.now 32768) × (is_base b ≡ true) × (2 ≤ b) × (b ≤ 36)) (λ e. (is_base (cell_at image.now 32768) ≡ false) × (e ≡ fault_of BadBase (told_by registers.now.seat))) }
 {
     let base = image::fetch(image, 32768);
@@ -42,43 +41,39 @@ fn base_of(registers: &Registers, image: &[u8]) -> Result<u16, Fault>
     Err(refusal(registers, Reason::BadBase))
 }
 
-fn dot(
-    registers: &mut Registers,
-    image: &[u8],
-    cells: &[u16],
-    out: &mut [u8],
-    typed: &mut usize,
-) -> Result<Progress, Fault>
-    requires { (length image.now ≡ 65536) × ((length cells.now ≡ 128) × (typed.old ≤ length out.old)) }
-    ensures { OnOutput 49 registers.old image.now cells.now out.old typed.old result registers.new out.new typed.new }
+// Writes a cell in a base, signed or unsigned, and the blank behind it to the front of blanks; how many bytes they are.
+fn write_number(base: u16, x: u16, signed: bool, text: &mut [u8; 18]) -> usize
+    requires base { (2 ≤ base) × (base ≤ 36) }
+    requires blank { text.old ≡ replicate 18 32 }
+    ensures written { take result text.new ≡ number_text signed base x ++ 32 ∷ [] }
+    ensures bounded { result ≤ 18 }
 {
-    cells::need(registers, 1)?;
-    let base = base_of(registers, image)?;
-    let x = cells::cell(registers, cells, 0);
-    let mut text = [b' '; 18];
-    let width = numbers::signed_width(base, x);
-    numbers::write_signed(base, x, &mut text[..width]);
-    let fitted = type_bytes(out, typed, &text[..width + 1]);
-    Ok(finish(registers, cells, 1, fitted))
-}
-
-fn u_dot(
-    registers: &mut Registers,
-    image: &[u8],
-    cells: &[u16],
-    out: &mut [u8],
-    typed: &mut usize,
-) -> Result<Progress, Fault>
-    requires { (length image.now ≡ 65536) × ((length cells.now ≡ 128) × (typed.old ≤ length out.old)) }
-    ensures { OnOutput 50 registers.old image.now cells.now out.old typed.old result registers.new out.new typed.new }
-{
-    cells::need(registers, 1)?;
-    let base = base_of(registers, image)?;
-    let x = cells::cell(registers, cells, 0);
-    let mut text = [b' '; 18];
+    if signed {
+        let width = numbers::signed_width(base, x);
+        numbers::write_signed(base, x, &mut text[..width]);
+        return width + 1;
+    }
     let width = numbers::unsigned_width(base, x);
     numbers::write_unsigned(base, x, &mut text[..width]);
-    let fitted = type_bytes(out, typed, &text[..width + 1]);
+    width + 1
+}
+
+// . and U.
+fn number(
+    registers: &mut Registers,
+    image: &[u8; 65536],
+    cells: &[u16; 128],
+    output: &mut Output,
+    signed: bool,
+) -> Result<Progress, Fault>
+    ensures { OnOutput (number_word signed) registers.old image.now cells.now output.old.bytes.now output.old.typed result registers.new output.new.bytes.now output.new.typed }
+{
+    cells::need(registers, 1)?;
+    let base = base_of(registers, image)?;
+    let x = cells::cell(registers, cells, 0);
+    let mut text = [b' '; 18];
+    let length = write_number(base, x, signed, &mut text);
+    let fitted = output.type_bytes(&text[..length]);
     Ok(finish(registers, cells, 1, fitted))
 }
 
@@ -90,17 +85,15 @@ fn low_seven_bits(x: u16) -> u8
 
 fn emit(
     registers: &mut Registers,
-    image: &[u8],
-    cells: &[u16],
-    out: &mut [u8],
-    typed: &mut usize,
+    image: &[u8; 65536],
+    cells: &[u16; 128],
+    output: &mut Output,
 ) -> Result<Progress, Fault>
-    requires { (length image.now ≡ 65536) × ((length cells.now ≡ 128) × (typed.old ≤ length out.old)) }
-    ensures { OnOutput 51 registers.old image.now cells.now out.old typed.old result registers.new out.new typed.new }
+    ensures { OnOutput 51 registers.old image.now cells.now output.old.bytes.now output.old.typed result registers.new output.new.bytes.now output.new.typed }
 {
     cells::need(registers, 1)?;
     let byte = low_seven_bits(cells::cell(registers, cells, 0));
-    let fitted = type_bytes(out, typed, &[byte]);
+    let fitted = output.type_bytes(&[byte]);
     Ok(finish(registers, cells, 1, fitted))
 }
 
@@ -113,13 +106,11 @@ fn count_of(x: u16) -> u16
 
 fn type_space(
     registers: &mut Registers,
-    image: &[u8],
-    cells: &[u16],
-    out: &mut [u8],
-    typed: &mut usize,
+    image: &[u8; 65536],
+    cells: &[u16; 128],
+    output: &mut Output,
 ) -> Result<Progress, Fault>
-    requires { (length image.now ≡ 65536) × ((length cells.now ≡ 128) × (typed.old ≤ length out.old)) }
-    ensures { OnOutput 52 registers.old image.now cells.now out.old typed.old result registers.new out.new typed.new }
+    ensures { OnOutput 52 registers.old image.now cells.now output.old.bytes.now output.old.typed result registers.new output.new.bytes.now output.new.typed }
 {
     cells::need(registers, 2)?;
     let n = count_of(cells::cell(registers, cells, 0));
@@ -127,37 +118,33 @@ fn type_space(
     reach(registers, address, n)?;
     let from = usize::from(address);
     let end = from + usize::from(n);
-    let fitted = type_bytes(out, typed, &image[from..end]);
+    let fitted = output.type_bytes(&image[from..end]);
     Ok(finish(registers, cells, 2, fitted))
 }
 
 fn new_line(
     registers: &mut Registers,
-    image: &[u8],
-    cells: &[u16],
-    out: &mut [u8],
-    typed: &mut usize,
+    image: &[u8; 65536],
+    cells: &[u16; 128],
+    output: &mut Output,
 ) -> Result<Progress, Fault>
-    requires { (length image.now ≡ 65536) × ((length cells.now ≡ 128) × (typed.old ≤ length out.old)) }
-    ensures { OnOutput 53 registers.old image.now cells.now out.old typed.old result registers.new out.new typed.new }
+    ensures { OnOutput 53 registers.old image.now cells.now output.old.bytes.now output.old.typed result registers.new output.new.bytes.now output.new.typed }
 {
-    let fitted = type_bytes(out, typed, &[b'\r', b'\n']);
+    let fitted = output.type_bytes(&[b'\r', b'\n']);
     Ok(finish(registers, cells, 0, fitted))
 }
 
 fn spaces(
     registers: &mut Registers,
-    image: &[u8],
-    cells: &[u16],
-    out: &mut [u8],
-    typed: &mut usize,
+    image: &[u8; 65536],
+    cells: &[u16; 128],
+    output: &mut Output,
 ) -> Result<Progress, Fault>
-    requires { (length image.now ≡ 65536) × ((length cells.now ≡ 128) × (typed.old ≤ length out.old)) }
-    ensures { OnOutput 54 registers.old image.now cells.now out.old typed.old result registers.new out.new typed.new }
+    ensures { OnOutput 54 registers.old image.now cells.now output.old.bytes.now output.old.typed result registers.new output.new.bytes.now output.new.typed }
 {
     cells::need(registers, 1)?;
     let n = count_of(cells::cell(registers, cells, 0));
-    let fitted = type_blanks(out, typed, usize::from(n));
+    let fitted = output.type_blanks(usize::from(n));
     Ok(finish(registers, cells, 1, fitted))
 }
 
@@ -168,8 +155,7 @@ fn is_inside(address: u16, n: u16, dp: u16) -> bool
 }
 
 // The count byte at IP, if it and so many bytes behind it lie in the dictionary.
-fn text_length(registers: &Registers, image: &[u8]) -> Result<u8, Fault>
-    requires { length image.now ≡ 65536 }
+fn text_length(registers: &Registers, image: &[u8; 65536]) -> Result<u8, Fault>
     ensures { MatchResult result (λ n. (n ≡ slice_index image.now registers.now.seat.flow.ip) × (inside registers.now.seat.flow.ip (n + 1) registers.now.shared.ends.dp ≡ true) × (registers.now.seat.flow.ip + n + 1 ≤ 32768)) (λ e. (inside registers.now.seat.flow.ip (slice_index image.now registers.now.seat.flow.ip + 1) registers.now.shared.ends.dp ≡ false) × (e ≡ fault_of BadToken (told_by registers.now.seat))) }
 {
     let ip = registers.seat.flow.ip;
@@ -191,18 +177,16 @@ fn skip_text(registers: &mut Registers, n: u8)
 
 fn type_text(
     registers: &mut Registers,
-    image: &[u8],
-    cells: &[u16],
-    out: &mut [u8],
-    typed: &mut usize,
+    image: &[u8; 65536],
+    cells: &[u16; 128],
+    output: &mut Output,
 ) -> Result<Progress, Fault>
-    requires { (length image.now ≡ 65536) × ((length cells.now ≡ 128) × (typed.old ≤ length out.old)) }
-    ensures { OnOutput 105 registers.old image.now cells.now out.old typed.old result registers.new out.new typed.new }
+    ensures { OnOutput 105 registers.old image.now cells.now output.old.bytes.now output.old.typed result registers.new output.new.bytes.now output.new.typed }
 {
     let n = text_length(registers, image)?;
     let from = usize::from(registers.seat.flow.ip) + 1;
     let end = from + usize::from(n);
-    if !type_bytes(out, typed, &image[from..end]) {
+    if !output.type_bytes(&image[from..end]) {
         return Ok(Progress::Full);
     }
     skip_text(registers, n);
@@ -213,21 +197,19 @@ fn type_text(
 pub fn typing_word(
     registers: &mut Registers,
     word: TypingWord,
-    image: &[u8],
-    cells: &[u16],
-    out: &mut [u8],
-    typed: &mut usize,
+    image: &[u8; 65536],
+    cells: &[u16; 128],
+    output: &mut Output,
 ) -> Result<Progress, Fault>
-    requires { (length image.now ≡ 65536) × ((length cells.now ≡ 128) × (typed.old ≤ length out.old)) }
-    ensures { OnOutput (typing_number word) registers.old image.now cells.now out.old typed.old result registers.new out.new typed.new }
+    ensures { OnOutput (typing_number word) registers.old image.now cells.now output.old.bytes.now output.old.typed result registers.new output.new.bytes.now output.new.typed }
 {
     match word {
-        TypingWord::Dot => dot(registers, image, cells, out, typed),
-        TypingWord::UDot => u_dot(registers, image, cells, out, typed),
-        TypingWord::Emit => emit(registers, image, cells, out, typed),
-        TypingWord::Type => type_space(registers, image, cells, out, typed),
-        TypingWord::Cr => new_line(registers, image, cells, out, typed),
-        TypingWord::Spaces => spaces(registers, image, cells, out, typed),
-        TypingWord::Text => type_text(registers, image, cells, out, typed),
+        TypingWord::Dot => number(registers, image, cells, output, true),
+        TypingWord::UDot => number(registers, image, cells, output, false),
+        TypingWord::Emit => emit(registers, image, cells, output),
+        TypingWord::Type => type_space(registers, image, cells, output),
+        TypingWord::Cr => new_line(registers, image, cells, output),
+        TypingWord::Spaces => spaces(registers, image, cells, output),
+        TypingWord::Text => type_text(registers, image, cells, output),
     }
 }

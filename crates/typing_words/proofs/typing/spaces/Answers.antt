@@ -9,10 +9,10 @@ pub returns-in_err-need : goal.returns-in_err-need
 returns-in_err-need c =
     let p = err_from_is_err_and c.from_residual.result c.from_residual.ensures.1 in
     let h = c.in_err-need.ensures in
-    rw (p.1, p.2) (refuses 54 c.args.registers.now c.args.image.now c.args.cells.now c.args.out.now c.args.typed.now _ StackUnderflow (spaces_short c.args.registers.now c.args.image.now c.args.cells.now c.requires.0 c.requires.1.0 h.0) h.1)
+    rw (p.1, p.2) (refuses 54 c.args.registers.now c.args.image.now c.args.cells.now c.args.output.now.bytes.now c.args.output.now.typed _ StackUnderflow (spaces_short c.args.registers.now c.args.image.now c.args.cells.now c.told-image c.told-cells h.0) h.1)
 
 pub returns : goal.returns
 returns c =
-    ends 54 c.args.registers.now c.args.image.now c.args.cells.now c.args.out.now c.args.typed.now c.finish.new.registers c.type_blanks-fitted.new.out c.type_blanks-fitted.new.typed 1 (replicate c.from.result 32) (replicate c.count_of-n.result 32)
+    ends 54 c.args.registers.now c.args.image.now c.args.cells.now c.args.output.now.bytes.now c.args.output.now.typed c.finish.new.registers c.type_blanks-fitted.new.self.bytes.now c.type_blanks-fitted.new.self.typed 1 (replicate c.from.result 32) (replicate c.count_of-n.result 32)
     c.type_blanks-fitted.result c.finish.result (ap (λ y. replicate y 32) c.from.ensures) c.type_blanks-fitted.ensures c.finish.ensures
-    (spaces_typed c.args.registers.now c.args.image.now c.args.cells.now c.requires.0 c.requires.1.0 c.cell.result c.count_of-n.result c.in_ok-need.ensures c.cell.ensures c.count_of-n.ensures)
+    (spaces_typed c.args.registers.now c.args.image.now c.args.cells.now c.told-image c.told-cells c.cell.result c.count_of-n.result c.in_ok-need.ensures c.cell.ensures c.count_of-n.ensures)

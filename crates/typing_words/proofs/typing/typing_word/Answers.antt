@@ -1,10 +1,10 @@
 use Rattle.typing_words.proofs.typing.typing_word.Goals as goal
 
 pub returns-in-Dot : goal.returns-in-Dot
-returns-in-Dot c = rw c.in-Dot.is c.dot.ensures
+returns-in-Dot c = rw c.in-Dot.is c.number.ensures
 
 pub returns-in-UDot : goal.returns-in-UDot
-returns-in-UDot c = rw c.in-UDot.is c.u_dot.ensures
+returns-in-UDot c = rw c.in-UDot.is c.number-in-UDot.ensures
 
 pub returns-in-Emit : goal.returns-in-Emit
 returns-in-Emit c = rw c.in-Emit.is c.emit.ensures
