@@ -6,4 +6,3 @@ mod progress;
 mod table;
 
 pub use progress::went;
-pub use table::code_of;

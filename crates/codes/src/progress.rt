@@ -9,8 +9,5 @@ use steps::progress::Progress;
 pub fn went(done: Result<(), Fault>) -> Result<Progress, Fault>
     ensures { result ≡ went_by done }
 {
-    match done {
-        Ok(()) => Ok(Progress::Went),
-        Err(fault) => Err(fault),
-    }
+    done.map(|()| Progress::Went)
 }

@@ -181,23 +181,25 @@ fn inside_code(number: u16) -> Code
     }
 }
 
-// What the code of a word asks for.
-pub fn code_of(number: u16) -> Code
-    ensures { Coded number result }
-{
-    match number {
-        1..=16 => stack_code(number),
-        17..=33 => cell_code(number),
-        34..=48 => space_code(number),
-        49..=63 => Code::Seldom(outer_code(number)),
-        64..=79 => Code::Seldom(defining_code(number)),
-        80..=90 => Code::Seldom(control_code(number)),
-        91..=105 => inside_code(number),
-        201 => Code::Colon,
-        202 => Code::Created,
-        203 => Code::Constant,
-        204 => Code::Seldom(SeldomWord::Vocabulary),
-        205 => Code::Does,
-        _ => Code::Seldom(SeldomWord::Unknown),
+impl From<u16> for Code {
+    ghost from_gives = { Coded };
+
+    // What the code of a word asks for.
+    fn from(number: u16) -> Code {
+        match number {
+            1..=16 => stack_code(number),
+            17..=33 => cell_code(number),
+            34..=48 => space_code(number),
+            49..=63 => Code::Seldom(outer_code(number)),
+            64..=79 => Code::Seldom(defining_code(number)),
+            80..=90 => Code::Seldom(control_code(number)),
+            91..=105 => inside_code(number),
+            201 => Code::Colon,
+            202 => Code::Created,
+            203 => Code::Constant,
+            204 => Code::Seldom(SeldomWord::Vocabulary),
+            205 => Code::Does,
+            _ => Code::Seldom(SeldomWord::Unknown),
+        }
     }
 }

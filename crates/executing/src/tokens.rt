@@ -1,5 +1,5 @@
 // Tokens in the dictionary, and the way through EXECUTE.
-ghost use Rattle.std.specs.Prelude.{◌≡◌, ◌+◌, ◌<◌, ◌≤◌, length};
+ghost use Rattle.std.specs.Prelude.{◌≡◌, ◌+◌, ◌<◌, ◌≤◌};
 ghost use Rattle.executing.specs.Tokens.{Pops, Released, Through, is_execute};
 
 use definition::ranged::Registers;
@@ -10,8 +10,7 @@ use steps::cells;
 const EXECUTE: u16 = 59;
 
 // Is it the token of EXECUTE?
-fn executes(registers: &Registers, image: &[u8], token: u16) -> bool
-    requires { length image.now ≡ 65536 }
+fn executes(registers: &Registers, image: &[u8; 65536], token: u16) -> bool
     ensures { result ≡ is_execute registers.now.shared.ends.dp image.now token }
 {
     if token < 256 || usize::from(token) + 2 > usize::from(registers.shared.ends.dp) {
@@ -21,8 +20,7 @@ fn executes(registers: &Registers, image: &[u8], token: u16) -> bool
 }
 
 // Takes the top cell off.
-fn pop(registers: &mut Registers, cells: &[u16]) -> Result<u16, Fault>
-    requires { length cells.now ≡ 128 }
+fn pop(registers: &mut Registers, cells: &[u16; 128]) -> Result<u16, Fault>
     ensures { Pops registers.old cells.now result registers.new }
 {
     cells::need(registers, 1)?;
@@ -34,11 +32,10 @@ fn pop(registers: &mut Registers, cells: &[u16]) -> Result<u16, Fault>
 // The token that is executed: EXECUTE goes on with the one that it takes off the stack.
 pub(crate) fn through_execute(
     registers: &mut Registers,
-    image: &[u8],
-    cells: &[u16],
+    image: &[u8; 65536],
+    cells: &[u16; 128],
     token: u16,
 ) -> Result<u16, Fault>
-    requires { (length image.now ≡ 65536) × (length cells.now ≡ 128) }
     ensures through { Through token registers.old image.now cells.now result registers.new }
     ensures released { Released registers.old registers.new }
 {

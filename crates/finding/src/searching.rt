@@ -8,24 +8,12 @@ ghost use Rattle.entries.specs.Threads.{Ascii};
 ghost use Rattle.finding.specs.Finding.{Answers, EntryInside};
 ghost use Rattle.seat_dictionary.specs.Parts.{HoldsDictionary};
 ghost use Rattle.steps.specs.Does.{seen};
-ghost use Rattle.steps.specs.Seats.{told_by};
 ghost use Rattle.store.specs.Meaning.{Meaning};
 
 use definition::ranged::Registers;
-use fault::{Fault, Place};
+use fault::Fault;
 use seat_dictionary::dictionary_of;
-
-// BLK, and the place and length of the last word taken.
-pub fn told(registers: &Registers) -> Place
-    ensures { result ≡ told_by registers.now.seat }
-{
-    let source = registers.seat.source;
-    Place {
-        blk: source.position.blk,
-        start: source.word.start,
-        length: source.word.length,
-    }
-}
+use steps::faults::place;
 
 // The entry of a name in the search order, or nothing.
 pub fn search(registers: &Registers, image: &[u8; 65536], name: &[u8]) -> Result<Option<u16>, Fault>
@@ -35,5 +23,5 @@ pub fn search(registers: &Registers, image: &[u8; 65536], name: &[u8]) -> Result
     ensures inside { EntryInside registers.now.shared.ends.dp result }
 {
     let d = dictionary_of(registers);
-    d.search(image, name, told(registers))
+    d.search(image, name, place(registers))
 }

@@ -1,5 +1,5 @@
 // LOAD, and the end of a load.
-ghost use Rattle.std.specs.Prelude.{◌≡◌, ◌<◌, ◌≤◌, true, false, not, ◌&&◌, ◌∷◌, length, MatchResult};
+ghost use Rattle.std.specs.Prelude.{◌≡◌, ◌<◌, ◌≤◌, true, false, not, ◌&&◌, ◌∷◌, MatchResult};
 ghost use Rattle.definition.specs.View.{loads_of};
 ghost use Rattle.fault.specs.Numbers.{fault_of};
 ghost use Rattle.fault.specs.declared.Reason.TheVariants.{BadLoad};
@@ -12,7 +12,7 @@ use definition::ranged::Registers;
 use definition::registers::Position;
 use fault::{Fault, Reason};
 use steps::cells;
-use steps::faults::refusal;
+use steps::faults::ask;
 
 fn is_loadable(blk: u16, count: u16) -> bool
     ensures { result ≡ loadable blk count }
@@ -24,10 +24,11 @@ fn is_loadable(blk: u16, count: u16) -> bool
 fn ask_load(registers: &Registers, blk: u16) -> Result<(), Fault>
     ensures { MatchResult result (λ _. (loadable blk registers.now.seat.loads.count ≡ true) × (registers.now.seat.loads.count < 8)) (λ e. (loadable blk registers.now.seat.loads.count ≡ false) × (e ≡ fault_of BadLoad (told_by registers.now.seat))) }
 {
-    if is_loadable(blk, registers.seat.loads.count) {
-        return Ok(());
-    }
-    Err(refusal(registers, Reason::BadLoad))
+    ask(
+        registers,
+        is_loadable(blk, registers.seat.loads.count),
+        Reason::BadLoad,
+    )
 }
 
 // Text goes on at the start of a block, and its caller is kept.
@@ -37,15 +38,12 @@ fn open_block(registers: &mut Registers, blk: u16)
     ensures seat { registers.new.seat ≡ from (record { blk = blk; offset = 0 }) registers.new.seat.loads registers.old.seat }
     ensures loads { loads_of registers.new.seat.loads ≡ registers.old.seat.source.position ∷ loads_of registers.old.seat.loads }
 {
-    let mut loads = registers.seat.loads;
-    open_one(&mut loads, registers.seat.source.position);
-    registers.seat.loads = loads;
+    open_one(&mut registers.seat.loads, registers.seat.source.position);
     registers.seat.source.position = Position { blk, offset: 0 };
 }
 
 // LOAD: its text is read from the next step on.
-pub fn load_word(registers: &mut Registers, cells: &[u16]) -> Result<(), Fault>
-    requires { length cells.now ≡ 128 }
+pub fn load_word(registers: &mut Registers, cells: &[u16; 128]) -> Result<(), Fault>
     ensures { OnCells 58 registers.old cells.now result registers.new cells.now }
 {
     cells::need(registers, 1)?;
@@ -63,9 +61,6 @@ pub fn end_load(registers: &mut Registers) -> bool
     if registers.seat.loads.count == 0 {
         return false;
     }
-    let mut loads = registers.seat.loads;
-    let caller = end_one(&mut loads);
-    registers.seat.loads = loads;
-    registers.seat.source.position = caller;
+    registers.seat.source.position = end_one(&mut registers.seat.loads);
     true
 }

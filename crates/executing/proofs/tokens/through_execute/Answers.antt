@@ -12,7 +12,7 @@ returns-in_err-token c =
     let p = err_from_is_err_and c.from_residual.result c.from_residual.ensures.1 in
     let h = c.in_err-token.ensures in
     record {
-      through = rw (p.1, p.2) (λ e k s. subst (λ y. IsRefused y c.in_err-token.field-0.0 (seen c.pop.new.registers c.args.image.now c.args.cells.now e k s)) (sym (c.execute.invariant.1 e k s)) (none_to_take c.execute.registers c.args.image.now c.args.cells.now c.requires.0 c.requires.1 c.execute.token (sym c.executes.ensures ∙ c.execute-test.true) c.pop.new.registers c.in_err-token.field-0.0 h e k s));
+      through = rw (p.1, p.2) (λ e k s. subst (λ y. IsRefused y c.in_err-token.field-0.0 (seen c.pop.new.registers c.args.image.now c.args.cells.now e k s)) (sym (c.execute.invariant.1 e k s)) (none_to_take c.execute.registers c.args.image.now c.args.cells.now c.told-image c.told-cells c.execute.token (sym c.executes.ensures ∙ c.execute-test.true) c.pop.new.registers c.in_err-token.field-0.0 h e k s));
       released = refused_released c.args.registers.now c.execute.registers c.pop.new.registers c.args.cells.now c.in_err-token.field-0.0 c.execute.invariant.0 h;
     }
 
@@ -23,7 +23,7 @@ pub execute-preserved : goal.execute-preserved
 execute-preserved c =
     let h = c.in_ok-token.ensures in (
       pop_released c.args.registers.now c.execute.registers c.pop.new.registers c.args.cells.now c.in_ok-token.token c.execute.invariant.0 h,
-      λ e k s. c.execute.invariant.1 e k s ∙ took c.execute.registers c.args.image.now c.args.cells.now c.requires.0 c.requires.1 c.execute.token (sym c.executes.ensures ∙ c.execute-test.true) c.pop.new.registers c.in_ok-token.token h e k s,
+      λ e k s. c.execute.invariant.1 e k s ∙ took c.execute.registers c.args.image.now c.args.cells.now c.told-image c.told-cells c.execute.token (sym c.executes.ensures ∙ c.execute-test.true) c.pop.new.registers c.in_ok-token.token h e k s,
     )
 
 pub returns : goal.returns

@@ -6,4 +6,4 @@ pub returns-then-registers-eq0 : goal.returns-then-registers-eq0
 returns-then-registers-eq0 c = (ended_none c.args.registers.now c.if-registers-eq0.true, refl)
 
 pub returns : goal.returns
-returns c = ended_one c.args.registers.now c.end_one-caller.new.loads c.end_one-caller.result c.end_one-caller.ensures.stack
+returns c = ended_one c.args.registers.now c.end_one-registers.new.loads c.end_one-registers.result c.end_one-registers.ensures.stack
