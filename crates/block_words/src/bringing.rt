@@ -13,10 +13,7 @@ use store::Store;
 pub fn holds(registers: &Registers, n: u16) -> bool
     ensures { result ≡ holding registers.now.shared.buffer.held n }
 {
-    match registers.shared.buffer.held {
-        Some(held) => held == n,
-        None => false,
-    }
+    registers.shared.buffer.held == Some(n)
 }
 
 // A buffer with block n as the store has it.
@@ -40,10 +37,9 @@ pub(crate) fn assign(registers: &mut Registers, buffer: Buffer)
 // Writes an updated buffer out, and clears the flag.
 pub(crate) fn write_out<S: Store>(
     registers: &mut Registers,
-    image: &[u8],
+    image: &[u8; 65536],
     store: &mut S,
 ) -> Result<(), Fault>
-    requires { length image.now ≡ 65536 }
     ensures did { Brings saved registers.old image.now (S.Store.means store.old) result registers.new image.now (S.Store.means store.new) }
     ensures seat { registers.new.seat ≡ registers.old.seat }
 {
@@ -61,11 +57,10 @@ pub(crate) fn write_out<S: Store>(
 // Reads block n into the buffer.
 fn read_in<S: Store>(
     registers: &mut Registers,
-    image: &mut [u8],
+    image: &mut [u8; 65536],
     store: &S,
     n: u16,
 ) -> Result<(), Fault>
-    requires { length image.old ≡ 65536 }
     ensures did { Brings (read_from n) registers.old image.old (S.Store.means store.now) result registers.new image.new (S.Store.means store.now) }
     ensures below { take 256 image.new ≡ take 256 image.old }
     ensures seat { registers.new.seat ≡ registers.old.seat }
@@ -80,11 +75,10 @@ fn read_in<S: Store>(
 // Brings block n in, unless it is held: an updated buffer is written out first, and that stays done where the read is refused.
 pub fn bring<S: Store>(
     registers: &mut Registers,
-    image: &mut [u8],
+    image: &mut [u8; 65536],
     store: &mut S,
     n: u16,
 ) -> Result<(), Fault>
-    requires { length image.old ≡ 65536 }
     ensures did { Brings (brought n) registers.old image.old (S.Store.means store.old) result registers.new image.new (S.Store.means store.new) }
     ensures below { take 256 image.new ≡ take 256 image.old }
     ensures seat { registers.new.seat ≡ registers.old.seat }

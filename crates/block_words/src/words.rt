@@ -19,37 +19,22 @@ pub enum BlockWord {
 }
 
 // Where the buffer lies.
-fn buffer_address() -> u16
-    ensures { result ≡ 33024 }
-{
-    33024
-}
+const BUFFER: u16 = 33024;
 
 fn block<S: Store>(
     registers: &mut Registers,
-    image: &mut [u8],
-    cells: &mut [u16],
+    image: &mut [u8; 65536],
+    cells: &mut [u16; 128],
     store: &mut S,
 ) -> Result<(), Fault>
-    requires { (length image.old ≡ 65536) × (length cells.old ≡ 128) }
     ensures did { OnBlocks 55 registers.old image.old cells.old (S.Store.means store.old) result registers.new image.new cells.new (S.Store.means store.new) }
     ensures below { take 256 image.new ≡ take 256 image.old }
 {
     cells::need(registers, 1)?;
     let n = cells::cell(registers, cells, 0);
     bring(registers, image, store, n)?;
-    cells::replace(registers, cells, 1, buffer_address());
+    cells::replace(registers, cells, 1, BUFFER);
     Ok(())
-}
-
-// A buffer that is to be written out.
-fn marked(buffer: Buffer) -> Buffer
-    ensures { result ≡ record { held = buffer.held; updated = true } }
-{
-    Buffer {
-        held: buffer.held,
-        updated: true,
-    }
 }
 
 // With no block held, nothing is done.
@@ -61,26 +46,31 @@ fn update<S: Store>(registers: &mut Registers, store: &S) -> Result<(), Fault>
         return Ok(());
     }
     ask(registers, store.writable(), Reason::NotWritable)?;
-    assign(registers, marked(buffer));
+    assign(
+        registers,
+        Buffer {
+            updated: true,
+            ..buffer
+        },
+    );
     Ok(())
 }
 
-// A buffer without a block.
-fn unassigned() -> Buffer
-    ensures { result ≡ record { held = None; updated = false } }
-{
-    Buffer {
-        held: None,
-        updated: false,
-    }
-}
-
-fn flush<S: Store>(registers: &mut Registers, image: &[u8], store: &mut S) -> Result<(), Fault>
-    requires { length image.now ≡ 65536 }
+fn flush<S: Store>(
+    registers: &mut Registers,
+    image: &[u8; 65536],
+    store: &mut S,
+) -> Result<(), Fault>
     ensures { (c : List ℕ) → OnBlocks 57 registers.old image.now c (S.Store.means store.old) result registers.new image.now c (S.Store.means store.new) }
 {
     write_out(registers, image, store)?;
-    assign(registers, unassigned());
+    assign(
+        registers,
+        Buffer {
+            held: None,
+            updated: false,
+        },
+    );
     Ok(())
 }
 
@@ -88,11 +78,10 @@ fn flush<S: Store>(registers: &mut Registers, image: &[u8], store: &mut S) -> Re
 pub fn block_word<S: Store>(
     registers: &mut Registers,
     word: BlockWord,
-    image: &mut [u8],
-    cells: &mut [u16],
+    image: &mut [u8; 65536],
+    cells: &mut [u16; 128],
     store: &mut S,
 ) -> Result<(), Fault>
-    requires { (length image.old ≡ 65536) × (length cells.old ≡ 128) }
     ensures did { OnBlocks (block_number word) registers.old image.old cells.old (S.Store.means store.old) result registers.new image.new cells.new (S.Store.means store.new) }
     ensures below { take 256 image.new ≡ take 256 image.old }
 {

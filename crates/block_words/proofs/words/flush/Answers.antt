@@ -1,3 +1,4 @@
+use Rattle.std.proofs.Common.{refl}
 use Rattle.std.proofs.lemmas.Result.{err_from_is_err_and}
 use Rattle.block_words.proofs.Finishing.{not_flushed, flushed}
 use Rattle.block_words.proofs.words.flush.Goals as goal
@@ -9,5 +10,5 @@ returns-in_err-write_out g c =
 
 pub returns : goal.returns
 returns g c =
-    flushed c.args.registers.now c.args.image.now (g.S.Store.means c.args.store.now) c.write_out.new.registers c.assign.new.registers _ c.unassigned.result c.in_ok-write_out.ensures.did c.unassigned.ensures
+    flushed c.args.registers.now c.args.image.now (g.S.Store.means c.args.store.now) c.write_out.new.registers c.assign.new.registers _ _ c.in_ok-write_out.ensures.did refl
     (record { shared = c.assign.ensures.shared; seat = c.assign.ensures.seat })

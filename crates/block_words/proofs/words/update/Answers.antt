@@ -1,4 +1,4 @@
-use Rattle.std.proofs.Common.{not, sym, ap, ◌∙◌}
+use Rattle.std.proofs.Common.{not, sym, refl, ap, ◌∙◌}
 use Rattle.std.proofs.lemmas.Result.{err_from_is_err_and}
 use Rattle.block_words.proofs.Finishing.{nothing_held, locked, updated}
 use Rattle.block_words.proofs.words.update.Goals as goal
@@ -14,5 +14,5 @@ returns-in_err-ask g c =
 
 pub returns : goal.returns
 returns g c =
-    updated c.args.registers.now (g.S.Store.means c.args.store.now) c.assign.new.registers c.marked.result (c.is_none.ensures ∙ ap not c.if-is_none.false) (sym c.writable.ensures ∙ c.in_ok-ask.ensures) c.marked.ensures
+    updated c.args.registers.now (g.S.Store.means c.args.store.now) c.assign.new.registers _ (c.is_none.ensures ∙ ap not c.if-is_none.false) (sym c.writable.ensures ∙ c.in_ok-ask.ensures) refl
     (record { shared = c.assign.ensures.shared; seat = c.assign.ensures.seat })
