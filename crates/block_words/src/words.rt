@@ -18,8 +18,12 @@ pub enum BlockWord {
     Flush,
 }
 
-// Where the buffer lies.
-const BUFFER: u16 = 33024;
+// Where the buffer lies: a function, so that the address is proved here and not in the word.
+fn buffer_address() -> u16
+    ensures { result ≡ 33024 }
+{
+    33024
+}
 
 fn block<S: Store>(
     registers: &mut Registers,
@@ -33,7 +37,7 @@ fn block<S: Store>(
     cells::need(registers, 1)?;
     let n = cells::cell(registers, cells, 0);
     bring(registers, image, store, n)?;
-    cells::replace(registers, cells, 1, BUFFER);
+    cells::replace(registers, cells, 1, buffer_address());
     Ok(())
 }
 

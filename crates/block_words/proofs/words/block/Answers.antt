@@ -22,6 +22,6 @@ pub returns : goal.returns
 returns g c =
     let h = c.in_ok-bring.ensures in
     record {
-      did = answered c.args.registers.now c.args.image.now c.args.cells.now (g.S.Store.means c.args.store.now) c.told-cells c.cell-n.result c.in_ok-need.ensures c.cell-n.ensures c.bring.new.registers c.replace.new.registers c.bring.new.image c.replace.new.cells _ _ h.did refl c.replace.ensures.shared c.replace.ensures.seat c.replace.ensures.stack;
+      did = answered c.args.registers.now c.args.image.now c.args.cells.now (g.S.Store.means c.args.store.now) c.told-cells c.cell-n.result c.in_ok-need.ensures c.cell-n.ensures c.bring.new.registers c.replace.new.registers c.bring.new.image c.replace.new.cells _ c.buffer_address.result h.did c.buffer_address.ensures c.replace.ensures.shared c.replace.ensures.seat c.replace.ensures.stack;
       below = h.below;
     }
