@@ -78,7 +78,7 @@ fn flush<S: Store>(
     Ok(())
 }
 
-// BLOCK UPDATE FLUSH
+// BLOCK UPDATE FLUSH, by one match: a step has one dispatch and calls through no pointer.
 pub fn block_word<S: Store>(
     registers: &mut Registers,
     word: BlockWord,

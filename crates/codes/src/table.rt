@@ -1,4 +1,5 @@
-// The codes in the order of the kernel table, by its parts.
+// The codes in the order of the kernel table, by its parts: a match on numbers, since codes in the image are numbers, and each step
+// looks one up.
 ghost use Rattle.std.specs.Prelude.{◌≡◌, ◌≤◌};
 ghost use Rattle.codes.specs.Codes.{Coded, SeldomCoded};
 

@@ -29,7 +29,7 @@ fn pop(registers: &mut Registers, cells: &[u16; 128]) -> Result<u16, Fault>
     Ok(x)
 }
 
-// The token that is executed: EXECUTE goes on with the one that it takes off the stack.
+// The token that is executed: EXECUTE goes on with the one that it takes off the stack. No index is counted: each round takes a cell.
 pub(crate) fn through_execute(
     registers: &mut Registers,
     image: &[u8; 65536],

@@ -54,7 +54,8 @@ pub fn load_word(registers: &mut Registers, cells: &[u16; 128]) -> Result<(), Fa
     Ok(())
 }
 
-// Where no word is left: the innermost load ends and its caller goes on. Is there none, the line is finished.
+// Where no word is left: the innermost load ends and its caller goes on. Is there none, the line is finished. Yes or no is all
+// that the caller needs.
 pub fn end_load(registers: &mut Registers) -> bool
     ensures { EndsLoad registers.old result registers.new }
 {

@@ -1,4 +1,4 @@
-// The open loads as a stack in eight named places.
+// The open loads as a stack in eight named places: registers hold no array.
 ghost use Rattle.std.specs.Prelude.{◌≡◌, ℕ, ◌+◌, ◌-◌, ◌<◌, ◌≤◌, ◌∷◌, slice_set};
 ghost use Rattle.definition.specs.Ranges.{eight, load_at};
 ghost use Rattle.definition.specs.View.{loads_of};

@@ -1,4 +1,4 @@
-// A name, copied out of the text.
+// A name, copied out of the text, since the image is written while it is in use. There is no heap: it has 31 places and a count.
 ghost use Rattle.std.specs.Prelude.{◌≡◌, ◌≤◌, true, length, take};
 ghost use Rattle.definition.specs.Text.{is_name};
 

@@ -16,7 +16,8 @@ fn in_time(from: usize, end: usize, length: usize, most: usize) -> bool
     end < length && end <= from + most
 }
 
-// Takes the text up to the next such byte, at most so many bytes: where it begins and ends in the image.
+// Takes the text up to the next such byte, at most so many bytes: where it begins and ends in the image, which may be written while
+// the text is in use.
 pub fn take_to(
     registers: &mut Registers,
     image: &[u8; 65536],

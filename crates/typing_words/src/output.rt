@@ -27,7 +27,7 @@ impl<'a> Output<'a> {
         n <= self.bytes.len() - self.typed
     }
 
-    // Types bytes, if they fit.
+    // Types bytes, if they fit. Yes or no is all that a word needs.
     pub(crate) fn type_bytes(&mut self, bytes: &[u8]) -> bool
         ensures { Types self.old.bytes.now self.old.typed bytes.now result self.new.bytes.now self.new.typed }
     {

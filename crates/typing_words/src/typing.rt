@@ -193,7 +193,7 @@ fn type_text(
     Ok(Progress::Went)
 }
 
-// . U. EMIT TYPE CR SPACES (.")
+// . U. EMIT TYPE CR SPACES (."), by one match: a step has one dispatch and calls through no pointer.
 pub fn typing_word(
     registers: &mut Registers,
     word: TypingWord,
