@@ -7,7 +7,7 @@ use super::bringing::{assign, bring, write_out};
 use definition::ranged::Registers;
 use definition::registers::Buffer;
 use fault::{Fault, Reason};
-use steps::cells;
+use steps::cells::{self, Data};
 use steps::faults::ask;
 use store::Store;
 
@@ -34,8 +34,8 @@ fn block<S: Store>(
     ensures did { OnBlocks 55 registers.old image.old cells.old (S.Store.means store.old) result registers.new image.new cells.new (S.Store.means store.new) }
     ensures below { take 256 image.new ≡ take 256 image.old }
 {
-    cells::need(registers, 1)?;
-    let n = cells::cell(registers, cells, 0);
+    cells::need::<Data>(registers, 1)?;
+    let n = cells::cell::<Data>(registers, cells, 0);
     bring(registers, image, store, n)?;
     cells::replace(registers, cells, 1, buffer_address());
     Ok(())

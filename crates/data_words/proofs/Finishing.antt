@@ -1,5 +1,5 @@
 -- The end of each word, from what its questions and moves ensure.
-use Rattle.std.proofs.Common.{◌≡◌, ℕ, ◌+◌, ◌-◌, ◌<◌, ◌≤◌, true, false, eqb, List, [], ◌∷◌, length, get_or, drop, Some, None, Ok, Err, Result, sym, refl, ap, ◌∙◌, arith}
+use Rattle.std.proofs.Common.{◌≡◌, ℕ, ◌+◌, ◌-◌, ◌<◌, ◌≤◌, true, false, ◌⊎◌, eqb, List, [], ◌∷◌, length, get_or, drop, Some, None, Ok, Err, Result, inl, inr, sym, refl, ap, ◌∙◌, arith}
 use Rattle.std.proofs.lemmas.Bool.Decides.{nat_tests}
 use Rattle.fault.specs.declared.Fault.{Fault}
 use Rattle.fault.specs.declared.Reason.TheVariants.{StackUnderflow, BadQuotient}
@@ -9,24 +9,27 @@ use Rattle.image.specs.Views.{high_of}
 use Rattle.image.proofs.Laws.{length_high}
 use Rattle.numbers.specs.Division.{Divided, signed, product, floored, answered}
 use Rattle.stacks.specs.Stack.{stack_of, rolled}
-use Rattle.stacks.proofs.Laws.{length_stack}
 use Rattle.definition.specs.declared.registers.Mark.{Mark}
 use Rattle.definition.specs.declared.registers.Seat.{Seat}
 use Rattle.definition.specs.declared.ranged.Registers.{Registers}
+use Rattle.definition.specs.Machine.{Machine}
+use Rattle.definition.specs.Asked.{Asked, refused, After, quietly}
 use Rattle.definition.specs.Kernel
 use Rattle.definition.specs.Kernel.{CellsWord}
-use Rattle.definition.specs.Stacks.{replaced}
+use Rattle.definition.specs.Stacks.{do_cells, has_cells, nth, replaced}
 use Rattle.steps.specs.Seats.{told_by, with_cell_depth}
-use Rattle.steps.specs.Does.{seen, Does, OnCells}
-use Rattle.steps.proofs.Exits.{depth_of, has_cells_lem, lacks_cells, has_room_lem}
+use Rattle.steps.specs.Does.{seen, acts, Does, OnCells}
+use Rattle.steps.proofs.Exits.{refused_at, does_like, cells_view, depth_of, has_cells_lem, lacks_cells, has_room_lem}
 use Rattle.data_words.specs.declared.words.LeavingWord.{LeavingWord}
 use Rattle.data_words.specs.declared.words.UnaryWord.{UnaryWord}
 use Rattle.data_words.specs.declared.words.BinaryWord.{BinaryWord}
 use Rattle.data_words.specs.Numbers.{leaving_number, unary_number, binary_number}
+use Rattle.data_words.specs.Moving.{copied, rolled_up, Reaches}
+use Rattle.data_words.specs.Dividing.{Divides, quotient_of}
 use Rattle.data_words.specs.Tables.{left_by, of_one, of_two}
-use Rattle.data_words.proofs.Acting.{Acts, leaving_acts, unary_acts, binary_acts, dup_acts, drop-acts, swap_acts, over_acts, rot_acts, question_dup_acts, pick_acts, roll_acts, slash_mod_acts, times_slash_acts, dup_word, drop_word, swap_word, over_word, rot_word, question_dup_word}
-use Rattle.data_words.proofs.Moves.{one_done, two_done, three_done, replaced_done, pick_deep, pick_done, roll_deep, roll_done, unfit, divided, unfit_scaled, scaled, none_fits, some_fits, dup_leaves, over_leaves, question_dup_leaves, question_dup_stays, swap_list, rot_list}
-use Rattle.data_words.proofs.Ends.{cells_refused, cells_done, cells_replaced, cells_left}
+use Rattle.data_words.proofs.Acting.{Acts, leaving_acts, unary_acts, binary_acts, drop-acts, question_dup_acts, pick_acts, roll_acts, slash_mod_acts, times_slash_acts, drop_word, question_dup_word}
+use Rattle.data_words.proofs.Moves.{one_done, two_done, replaced_done, takes_of, pick_done, roll_done, unfit, divided, unfit_scaled, scaled, none_fits, some_fits, question_dup_leaves, question_dup_stays}
+use Rattle.data_words.proofs.Ends.{cells_refused, cells_short, cells_done, cells_replaced, cells_left}
 
 -- the depth, and the k-th cell from the top
 abbrev deep : Registers → ℕ
@@ -73,17 +76,11 @@ module _ (r r' : Registers) (c c' : List ℕ) (l : length c ≡ 128) where
       ap (λ y. replaced 0 (y ∷ []) (seen r i c t k s)) (left_same w _ _ _ _ (depth_of r i c t k s l) h ∙ sym p))
       g
 
-  pub dup_done : (x : ℕ) (o : Result (Unit {0}) Fault) → 1 ≤ deep r → x ≡ top r c 0 → Leaves r c x o r' c' → OnCells 1 r c o r' c'
-  dup_done x o h p g =
-      cells_left 1 dup_word dup_acts r r' c c' x o
-      (λ i t k s b. let d = depth_of r i c t k s l in dup_leaves (seen r i c t k s) (has_cells_lem r i c t k s l 1 h) (omega arith) ∙ ap (λ y. replaced 0 (y ∷ []) (seen r i c t k s)) (sym p))
-      g
-
-  pub over_done : (x : ℕ) (o : Result (Unit {0}) Fault) → 2 ≤ deep r → x ≡ top r c 1 → Leaves r c x o r' c' → OnCells 4 r c o r' c'
-  over_done x o h p g =
-      cells_left 4 over_word over_acts r r' c c' x o
-      (λ i t k s b. let d = depth_of r i c t k s l in over_leaves (seen r i c t k s) (has_cells_lem r i c t k s l 2 h) (omega arith) ∙ ap (λ y. replaced 0 (y ∷ []) (seen r i c t k s)) (sym p))
-      g
+  -- DUP and OVER copy the k-th cell
+  pub copy_done : (k x : ℕ) (o : Result (Unit {0}) Fault) → k + 1 ≤ deep r → x ≡ top r c k → Leaves r c x o r' c' → (i t : List ℕ) (n : List Mark) (s : Meaning) → Does (copied k) (seen r i c t n s) o (seen r' i c' t n s)
+  copy_done k x o h p g i t n s =
+      does_like (copied k) (replaced 0 (x ∷ [])) (seen r i c t n s) (seen r' i c' t n s) o
+      (rw (has_cells_lem r i c t n s l (k + 1) h) (ap (λ y. replaced 0 (y ∷ []) (seen r i c t n s)) (sym p))) (g i t n s)
 
   pub question_dup_done : (x : ℕ) (o : Result (Unit {0}) Fault) → 1 ≤ deep r → x ≡ top r c 0 → (x ≡ 0 → ⊥) → Leaves r c x o r' c' → OnCells 6 r c o r' c'
   question_dup_done x o h p n g =
@@ -98,53 +95,53 @@ module _ (r r' : Registers) (c c' : List ℕ) (l : length c ≡ 128) where
       (λ i t k s. one_done (λ a. []) (seen r i c t k s) (has_cells_lem r i c t k s l 1 h) ∙ replaced_done 1 [] (seen r i c t k s) (has_room_lem r i c t k s l 0 1 h (omega (arith, r.cells))))
       e.shared e.seat e.stack
 
-  pub pick_too_deep : (a : ℕ) (e : Fault) → 1 ≤ deep r → a ≡ top r c 0 → deep r < a + 2 → e ≡ fault_of StackUnderflow (told_by r.seat) → OnCells 8 r c (Err e) r c
-  pick_too_deep a e h p b q =
-      cells_refused 8 Kernel.pick pick_acts r c e StackUnderflow
-      (λ i t k s. pick_deep (seen r i c t k s) (has_cells_lem r i c t k s l 1 h) (lacks_cells r i c t k s l (top r c 0 + 2) (omega arith))) q
-
   pub pick_found : (a x : ℕ) → 1 ≤ deep r → a ≡ top r c 0 → a + 2 ≤ deep r → x ≡ top r c (a + 1) → Replaced r c 1 x r' c' → OnCells 8 r c (Ok tt) r' c'
   pick_found a x h p b q e =
       cells_replaced 8 Kernel.pick pick_acts r r' c c' 1 x l (omega arith) h
       (λ i t k s. pick_done (seen r i c t k s) (has_cells_lem r i c t k s l 1 h) (has_cells_lem r i c t k s l (top r c 0 + 2) (omega arith)) ∙ ap (λ y. replaced 1 (y ∷ []) (seen r i c t k s)) (sym (q ∙ ap (λ y. top r c (y + 1)) p)))
       e.shared e.seat e.stack
 
-  pub roll_too_deep : (a : ℕ) (e : Fault) → 1 ≤ deep r → a ≡ top r c 0 → deep r < a + 2 → e ≡ fault_of StackUnderflow (told_by r.seat) → OnCells 9 r c (Err e) r c
-  roll_too_deep a e h p b q =
-      cells_refused 9 Kernel.roll roll_acts r c e StackUnderflow
-      (λ i t k s. roll_deep (seen r i c t k s) (has_cells_lem r i c t k s l 1 h) (lacks_cells r i c t k s l (top r c 0 + 2) (omega arith))) q
-
-  pub rolled_up : (a d : ℕ) → d ≡ deep r' → 1 ≤ deep r → a ≡ top r c 0 → a + 2 ≤ deep r → r'.shared ≡ r.shared → r'.seat ≡ with_cell_depth (deep r - 1) r.seat → stack_of (deep r - 1) c ≡ drop 1 (stack_of (deep r) c) → stack_of d c' ≡ rolled a (stack_of d c) 0 → OnCells 9 r c (Ok tt) r' c'
-  rolled_up a d q h p b u v e f =
+  pub roll_found : (a d : ℕ) → d ≡ deep r' → 1 ≤ deep r → a ≡ top r c 0 → a + 2 ≤ deep r → r'.shared ≡ r.shared → r'.seat ≡ with_cell_depth (deep r - 1) r.seat → stack_of (deep r - 1) c ≡ drop 1 (stack_of (deep r) c) → stack_of d c' ≡ rolled a (stack_of d c) 0 → OnCells 9 r c (Ok tt) r' c'
+  roll_found a d q h p b u v e f =
       let n : d ≡ deep r - 1 = q ∙ ap (λ (y : Seat). y.depths.cells) v in
       let g : stack_of (deep r - 1) c' ≡ rolled a (stack_of (deep r - 1) c) 0 = rw n at f in
       cells_done 9 Kernel.roll roll_acts r r' c c' _ _
       (λ i t k s. roll_done (seen r i c t k s) (has_cells_lem r i c t k s l 1 h) (has_cells_lem r i c t k s l (top r c 0 + 2) (omega arith)))
       u v (g ∙ ap (λ y. rolled y (stack_of (deep r - 1) c) 0) p ∙ ap (λ y. rolled (top r c 0) y 0) e)
 
-  -- a division that has its pair, or not
-  pub divided_done : (n : ℕ) (f : Divided → ℕ) → Acts n (Kernel.divide (λ d. f d ∷ [])) → (a b x : ℕ) (p : ℕ × ℕ) → 2 ≤ deep r → a ≡ top r c 1 → b ≡ top r c 0 → answered (floored (signed a) (signed b)) ≡ Some p → ((floored (signed a) (signed b)).fits ≡ true → x ≡ f (floored (signed a) (signed b))) → Replaced r c 2 x r' c' → OnCells n r c (Ok tt) r' c'
-  divided_done n f z a b x p h u v w y e =
-      let g = some_fits (floored (signed a) (signed b)) p w in
-      let k : floored (signed (top r c 1)) (signed (top r c 0)) ≡ floored (signed a) (signed b) = ap (λ q. floored (signed q) (signed (top r c 0))) (sym u) ∙ ap (λ q. floored (signed a) (signed q)) (sym v) in
-      cells_replaced n (Kernel.divide (λ d. f d ∷ [])) z r r' c c' 2 x l (omega arith) h
-      (λ i t k' s. divided (seen r i c t k' s) (λ d. f d ∷ []) (has_cells_lem r i c t k' s l 2 h) (ap (λ (q : Divided). q.fits) k ∙ g.0) ∙ ap (λ q. replaced 2 (f q ∷ []) (seen r i c t k' s)) k ∙ ap (λ q. replaced 2 (q ∷ []) (seen r i c t k' s)) (sym (y g.0)))
+  -- / and MOD
+  pub divided_done : (n : ℕ) (f : Divided → ℕ) → Acts n (Kernel.divide (λ d. f d ∷ [])) → (x : ℕ) (p : ℕ × ℕ) → Divides r c (Ok p) → x ≡ f (quotient_of r c) → Replaced r c 2 x r' c' → OnCells n r c (Ok tt) r' c'
+  divided_done n f z x p g y e =
+      cells_replaced n (Kernel.divide (λ d. f d ∷ [])) z r r' c c' 2 x l (omega arith) g.0
+      (λ i t k s. divided (seen r i c t k s) (λ d. f d ∷ []) (has_cells_lem r i c t k s l 2 g.0) (some_fits (quotient_of r c) p g.1).0 ∙ ap (λ q. replaced 2 (q ∷ []) (seen r i c t k s)) (sym y))
       e.shared e.seat e.stack
 
 module _ (r : Registers) (c : List ℕ) (l : length c ≡ 128) where
-  pub swap_done : (c' : List ℕ) (d : ℕ) → d ≡ deep r → 2 ≤ deep r → stack_of d c' ≡ rolled 1 (stack_of d c) 0 → OnCells 3 r c (Ok tt) r c'
-  swap_done c' d q h e =
-      let e' : stack_of (deep r) c' ≡ rolled 1 (stack_of (deep r) c) 0 = rw q at e in
-      cells_done 3 swap_word swap_acts r r c c' (deep r) _
-      (λ i t k s. two_done (λ a b. a ∷ b ∷ []) (seen r i c t k s) (has_cells_lem r i c t k s l 2 h) ∙ replaced_done 2 (top r c 1 ∷ top r c 0 ∷ []) (seen r i c t k s) (has_room_lem r i c t k s l 2 2 h (omega (arith, r.cells))))
-      refl refl (e' ∙ swap_list (stack_of (deep r) c) (omega (arith, length_stack (deep r) c (omega (arith, r.cells)))))
+  pub copy_short : (k : ℕ) (e : Fault) → deep r < k + 1 → e ≡ fault_of StackUnderflow (told_by r.seat) → (i t : List ℕ) (n : List Mark) (s : Meaning) → Does (copied k) (seen r i c t n s) (Err e) (seen r i c t n s)
+  copy_short k e h p i t n s = refused_at (copied k) (seen r i c t n s) e StackUnderflow (rw (lacks_cells r i c t n s l (k + 1) h)) p
 
-  pub rot_done : (c' : List ℕ) (d : ℕ) → d ≡ deep r → 3 ≤ deep r → stack_of d c' ≡ rolled 2 (stack_of d c) 0 → OnCells 5 r c (Ok tt) r c'
-  rot_done c' d q h e =
-      let e' : stack_of (deep r) c' ≡ rolled 2 (stack_of (deep r) c) 0 = rw q at e in
-      cells_done 5 rot_word rot_acts r r c c' (deep r) _
-      (λ i t k s. three_done (λ a b d. a ∷ d ∷ b ∷ []) (seen r i c t k s) (has_cells_lem r i c t k s l 3 h) ∙ replaced_done 3 (top r c 2 ∷ top r c 0 ∷ top r c 1 ∷ []) (seen r i c t k s) (has_room_lem r i c t k s l 3 3 h (omega (arith, r.cells))))
-      refl refl (e' ∙ rot_list (stack_of (deep r) c) (omega (arith, length_stack (deep r) c (omega (arith, r.cells)))))
+  -- PICK and ROLL that find too few cells
+  pub reached_not : (n : ℕ) (w : CellsWord) → Acts n w → takes_of w ≡ 1 → ((m : Machine) → has_cells 1 m ≡ true → has_cells (nth 0 m + 2) m ≡ false → do_cells w m ≡ refused StackUnderflow m) → (e : Fault) → Reaches r c (Err e) → OnCells n r c (Err e) r c
+  reached_not n w z v deep_no e p = at p.0
+    where
+      at : (deep r < 1) ⊎ ((1 ≤ deep r) × (deep r < top r c 0 + 2)) → OnCells n r c (Err e) r c
+      at (inl h) = cells_short n w z r c e l (omega arith) (omega arith) p.1
+      at (inr h) = cells_refused n w z r c e StackUnderflow (λ i t k s. deep_no (seen r i c t k s) (has_cells_lem r i c t k s l 1 h.0) (lacks_cells r i c t k s l (top r c 0 + 2) h.1)) p.1
+
+  -- SWAP and ROT roll the k-th cell up
+  pub roll_short : (k : ℕ) (e : Fault) → deep r < k + 1 → e ≡ fault_of StackUnderflow (told_by r.seat) → (i t : List ℕ) (n : List Mark) (s : Meaning) → Does (rolled_up k) (seen r i c t n s) (Err e) (seen r i c t n s)
+  roll_short k e h p i t n s = refused_at (rolled_up k) (seen r i c t n s) e StackUnderflow (rw (lacks_cells r i c t n s l (k + 1) h)) p
+
+  pub roll_cell_done : (c' : List ℕ) (k d : ℕ) → d ≡ deep r → k + 1 ≤ deep r → stack_of d c' ≡ rolled k (stack_of d c) 0 → (i t : List ℕ) (n : List Mark) (s : Meaning) → Does (rolled_up k) (seen r i c t n s) (Ok tt) (seen r i c' t n s)
+  roll_cell_done c' k d q h e i t n s =
+      let e' : stack_of (deep r) c' ≡ rolled k (stack_of (deep r) c) 0 = rw q at e in
+      rw (has_cells_lem r i c t n s l (k + 1) h) (ap quietly (sym (cells_view r r i c c' t n s (deep r) _ refl refl e')))
+
+  -- a word of the table that does f on every stack of at most 128 cells
+  pub on_cells : (n : ℕ) (w : CellsWord) → Acts n w → (f : Machine → Asked After) → ((m : Machine) → length m.stacks.cells ≤ 128 → do_cells w m ≡ f m) → (r' : Registers) (c' : List ℕ) (o : Result (Unit {0}) Fault) → ((i t : List ℕ) (k : List Mark) (s : Meaning) → Does f (seen r i c t k s) o (seen r' i c' t k s)) → OnCells n r c o r' c'
+  on_cells n w q f h r' c' o g = λ again a i t k s b.
+      let d = depth_of r i c t k s l in
+      does_like (acts n again a) f (seen r i c t k s) (seen r' i c' t k s) o (q again a (seen r i c t k s) ∙ h (seen r i c t k s) (omega (arith, r.cells))) (g i t k s)
 
   pub question_dup_of_zero : (x : ℕ) → 1 ≤ deep r → x ≡ top r c 0 → x ≡ 0 → OnCells 6 r c (Ok tt) r c
   question_dup_of_zero x h p n =
@@ -153,12 +150,9 @@ module _ (r : Registers) (c : List ℕ) (l : length c ≡ 128) where
       let d = depth_of r i c t k s l in
       question_dup_acts again a (seen r i c t k s) ∙ question_dup_stays (seen r i c t k s) (has_cells_lem r i c t k s l 1 h) (omega arith) (has_room_lem r i c t k s l 1 1 h (omega (arith, r.cells))) z
 
-  pub divided_not : (n : ℕ) (f : Divided → List ℕ) → Acts n (Kernel.divide f) → (a b : ℕ) (e : Fault) → 2 ≤ deep r → a ≡ top r c 1 → b ≡ top r c 0 → answered (floored (signed a) (signed b)) ≡ None → e ≡ fault_of BadQuotient (told_by r.seat) → OnCells n r c (Err e) r c
-  divided_not n f z a b e h u v w q =
-      let g = none_fits (floored (signed a) (signed b)) w in
-      let k : floored (signed (top r c 1)) (signed (top r c 0)) ≡ floored (signed a) (signed b) = ap (λ y. floored (signed y) (signed (top r c 0))) (sym u) ∙ ap (λ y. floored (signed a) (signed y)) (sym v) in
-      cells_refused n (Kernel.divide f) z r c e BadQuotient
-      (λ i t k' s. unfit (seen r i c t k' s) f (has_cells_lem r i c t k' s l 2 h) (ap (λ (y : Divided). y.fits) k ∙ g)) q
+  pub divided_not : (n : ℕ) (f : Divided → List ℕ) → Acts n (Kernel.divide f) → (e : Fault) → Divides r c (Err e) → OnCells n r c (Err e) r c
+  divided_not n f z e (inl p) = cells_short n (Kernel.divide f) z r c e l (omega arith) p.0 p.1
+  divided_not n f z e (inr p) = cells_refused n (Kernel.divide f) z r c e BadQuotient (λ i t k s. unfit (seen r i c t k s) f (has_cells_lem r i c t k s l 2 p.0) (none_fits (quotient_of r c) p.1)) p.2
 
   pub scaled_not : (a b d : ℕ) (e : Fault) → 3 ≤ deep r → a ≡ top r c 2 → b ≡ top r c 1 → d ≡ top r c 0 → answered (floored (product a b) (signed d)) ≡ None → e ≡ fault_of BadQuotient (told_by r.seat) → OnCells 16 r c (Err e) r c
   scaled_not a b d e h u v w z q =
@@ -176,15 +170,14 @@ module _ (r r' r'' : Registers) (c c' c'' : List ℕ) (l : length c ≡ 128) whe
       (λ i t k' s. scaled (seen r i c t k' s) (has_cells_lem r i c t k' s l 3 h) (ap (λ (y : Divided). y.fits) k ∙ g.0) ∙ ap (λ (y : Divided). replaced 3 (y.quotient ∷ []) (seen r i c t k' s)) k ∙ ap (λ y. replaced 3 (y ∷ []) (seen r i c t k' s)) (sym g.2))
       e.shared e.seat e.stack
 
-  pub slash_mod_done : (a b : ℕ) (p : ℕ × ℕ) → 2 ≤ deep r → a ≡ top r c 1 → b ≡ top r c 0 → answered (floored (signed a) (signed b)) ≡ Some p → Replaced r c 2 p.0 r' c' → Left r' r'' c'' (deep r' + 1) (p.1 ∷ stack_of (deep r') c') → OnCells 15 r c (Ok tt) r'' c''
-  slash_mod_done a b p h u v w e z =
-      let g = some_fits (floored (signed a) (signed b)) p w in
-      let k : floored (signed (top r c 1)) (signed (top r c 0)) ≡ floored (signed a) (signed b) = cc in
+  pub slash_mod_done : (p : ℕ × ℕ) → Divides r c (Ok p) → Replaced r c 2 p.0 r' c' → Left r' r'' c'' (deep r' + 1) (p.1 ∷ stack_of (deep r') c') → OnCells 15 r c (Ok tt) r'' c''
+  slash_mod_done p v e z =
+      let m = quotient_of r c in
+      let g = some_fits m p v.1 in
       let n : deep r' ≡ deep r - 2 + 1 = ap (λ (y : Seat). y.depths.cells) e.seat in
       let x : stack_of (deep r') c' ≡ p.0 ∷ drop 2 (stack_of (deep r) c) = ap (λ y. stack_of y c') n ∙ e.stack in
-      let m = floored (signed (top r c 1)) (signed (top r c 0)) in
       cells_done 15 (Kernel.divide (λ d. d.quotient ∷ d.remainder ∷ [])) slash_mod_acts r r'' c c'' (deep r' + 1) (m.quotient ∷ m.remainder ∷ drop 2 (stack_of (deep r) c))
-      (λ i t k' s. divided (seen r i c t k' s) (λ d. d.quotient ∷ d.remainder ∷ []) (has_cells_lem r i c t k' s l 2 h) (ap (λ (y : Divided). y.fits) k ∙ g.0)
-      ∙ replaced_done 2 (m.quotient ∷ m.remainder ∷ []) (seen r i c t k' s) (has_room_lem r i c t k' s l 2 2 h (omega (arith, r.cells))))
+      (λ i t k s. divided (seen r i c t k s) (λ d. d.quotient ∷ d.remainder ∷ []) (has_cells_lem r i c t k s l 2 v.0) g.0
+      ∙ replaced_done 2 (m.quotient ∷ m.remainder ∷ []) (seen r i c t k s) (has_room_lem r i c t k s l 2 2 v.0 (omega (arith, r.cells))))
       (z.shared ∙ e.shared) (z.seat ∙ ap (with_cell_depth (deep r' + 1)) e.seat)
-      (z.stack ∙ ap (λ ys. p.1 ∷ ys) x ∙ ap (λ y. y ∷ p.0 ∷ drop 2 (stack_of (deep r) c)) (g.2 ∙ ap (λ (y : Divided). y.quotient) (sym k)) ∙ ap (λ y. m.quotient ∷ y ∷ drop 2 (stack_of (deep r) c)) (g.1 ∙ ap (λ (y : Divided). y.remainder) (sym k)))
+      (z.stack ∙ ap (λ ys. p.1 ∷ ys) x ∙ ap (λ y. y ∷ p.0 ∷ drop 2 (stack_of (deep r) c)) g.2 ∙ ap (λ y. m.quotient ∷ y ∷ drop 2 (stack_of (deep r) c)) g.1)

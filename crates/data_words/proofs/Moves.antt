@@ -1,5 +1,6 @@
 -- How the definition comes to the end of each word, at a machine whose questions are answered.
-use Rattle.std.proofs.Common.{◌≡◌, ℕ, ◌+◌, ◌<◌, ◌≤◌, Bool, true, false, eqb, leb, List, [], ◌∷◌, ◌++◌, length, get_or, drop, Some, None, Option, sym, refl, ap, ◌∙◌, arith}
+use Rattle.std.proofs.Common.{◌≡◌, ℕ, ◌+◌, ◌<◌, ◌≤◌, Bool, true, false, eqb, leb, List, [], ◌∷◌, ◌++◌, length, get_or, drop, Some, None, Option, ◌⊎◌, inl, inr, sym, refl, ap, ◌∙◌, arith, length-drop}
+use Rattle.std.proofs.lemmas.Bool.Decides.{leb_tells}
 use Rattle.fault.specs.declared.Reason.TheVariants.{StackUnderflow, StackOverflow, BadQuotient}
 use Rattle.numbers.specs.Division.{Divided, signed, product, floored, answered}
 use Rattle.stacks.specs.Stack.{rolled}
@@ -8,7 +9,9 @@ use Rattle.definition.specs.Asked.{refused, ask, ◌>>◌, quietly}
 use Rattle.definition.specs.Kernel
 use Rattle.definition.specs.Kernel.{CellsWord}
 use Rattle.definition.specs.Stacks.{has_cells, has_room, popped, nth, replaced, do_cells}
-use Rattle.data_words.proofs.Acting.{dup_word, over_word, question_dup_word}
+use Rattle.steps.proofs.Exits.{yes}
+use Rattle.data_words.specs.Moving.{copied, rolled_up}
+use Rattle.data_words.proofs.Acting.{dup_word, swap_word, over_word, rot_word, question_dup_word}
 
 -- how many cells a word takes
 abbrev pub takes_of : CellsWord → ℕ
@@ -42,7 +45,7 @@ one_done f m h = rw h
 pub two_done : (f : ℕ → ℕ → List ℕ) (m : Machine) → has_cells 2 m ≡ true → do_cells (Kernel.two f) m ≡ replaced 2 (f (nth 1 m) (nth 0 m)) m
 two_done f m h = rw h
 
-pub three_done : (f : ℕ → ℕ → ℕ → List ℕ) (m : Machine) → has_cells 3 m ≡ true → do_cells (Kernel.three f) m ≡ replaced 3 (f (nth 2 m) (nth 1 m) (nth 0 m)) m
+three_done : (f : ℕ → ℕ → ℕ → List ℕ) (m : Machine) → has_cells 3 m ≡ true → do_cells (Kernel.three f) m ≡ replaced 3 (f (nth 2 m) (nth 1 m) (nth 0 m)) m
 three_done f m h = rw h
 
 -- PICK and ROLL ask for the cells that they reach over
@@ -104,12 +107,12 @@ over_list [] h = absurd (omega (arith, h))
 over_list (x ∷ []) h = absurd (omega (arith, h))
 over_list (x ∷ y ∷ s) h = (omega arith, refl)
 
-pub swap_list : (s : List ℕ) → 2 ≤ length s → rolled 1 s 0 ≡ get_or s 1 0 ∷ get_or s 0 0 ∷ drop 2 s
+swap_list : (s : List ℕ) → 2 ≤ length s → rolled 1 s 0 ≡ get_or s 1 0 ∷ get_or s 0 0 ∷ drop 2 s
 swap_list [] h = absurd (omega (arith, h))
 swap_list (x ∷ []) h = absurd (omega (arith, h))
 swap_list (x ∷ y ∷ s) h = refl
 
-pub rot_list : (s : List ℕ) → 3 ≤ length s → rolled 2 s 0 ≡ get_or s 2 0 ∷ get_or s 0 0 ∷ get_or s 1 0 ∷ drop 3 s
+rot_list : (s : List ℕ) → 3 ≤ length s → rolled 2 s 0 ≡ get_or s 2 0 ∷ get_or s 0 0 ∷ get_or s 1 0 ∷ drop 3 s
 rot_list [] h = absurd (omega (arith, h))
 rot_list (x ∷ []) h = absurd (omega (arith, h))
 rot_list (x ∷ y ∷ []) h = absurd (omega (arith, h))
@@ -120,10 +123,10 @@ top_list [] h = absurd (omega (arith, h))
 top_list (x ∷ s) h = refl
 
 -- DUP, OVER and ?DUP leave one cell more
-pub dup_leaves : (m : Machine) → has_cells 1 m ≡ true → 1 ≤ length m.stacks.cells → do_cells dup_word m ≡ replaced 0 (nth 0 m ∷ []) m
+dup_leaves : (m : Machine) → has_cells 1 m ≡ true → 1 ≤ length m.stacks.cells → do_cells dup_word m ≡ replaced 0 (nth 0 m ∷ []) m
 dup_leaves m h l = one_done (λ a. a ∷ a ∷ []) m h ∙ (let q = dup_list m.stacks.cells l in same_room 1 (nth 0 m ∷ nth 0 m ∷ []) (nth 0 m ∷ []) m q.0 q.1)
 
-pub over_leaves : (m : Machine) → has_cells 2 m ≡ true → 2 ≤ length m.stacks.cells → do_cells over_word m ≡ replaced 0 (nth 1 m ∷ []) m
+over_leaves : (m : Machine) → has_cells 2 m ≡ true → 2 ≤ length m.stacks.cells → do_cells over_word m ≡ replaced 0 (nth 1 m ∷ []) m
 over_leaves m h l = two_done (λ a b. a ∷ b ∷ a ∷ []) m h ∙ (let q = over_list m.stacks.cells l in same_room 2 (nth 1 m ∷ nth 0 m ∷ nth 1 m ∷ []) (nth 1 m ∷ []) m q.0 q.1)
 
 pub question_dup_leaves : (m : Machine) → has_cells 1 m ≡ true → 1 ≤ length m.stacks.cells → eqb (nth 0 m) 0 ≡ false → do_cells question_dup_word m ≡ replaced 0 (nth 0 m ∷ []) m
@@ -132,3 +135,35 @@ question_dup_leaves m h l z = rw (h, z) (let q = dup_list m.stacks.cells l in sa
 -- ?DUP of 0 leaves all as it is
 pub question_dup_stays : (m : Machine) → has_cells 1 m ≡ true → 1 ≤ length m.stacks.cells → has_room 1 (popped 1 m) ≡ true → eqb (nth 0 m) 0 ≡ true → do_cells question_dup_word m ≡ quietly m
 question_dup_stays m h l b z = rw (h, z, b) (ap (λ s. quietly (with_cells s m)) (top_list m.stacks.cells l))
+
+-- DUP and OVER copy the k-th cell, SWAP and ROT roll it up
+room_for : (n : ℕ) (m : Machine) → n ≤ length m.stacks.cells → length m.stacks.cells ≤ 128 → leb (n + length (drop n m.stacks.cells)) 128 ≡ true
+room_for n m h l = yes (n + length (drop n m.stacks.cells)) 128 (omega (arith, length-drop n m.stacks.cells))
+
+pub dup_copies : (m : Machine) → length m.stacks.cells ≤ 128 → do_cells dup_word m ≡ copied 0 m
+dup_copies m l = at (leb_tells 1 (length m.stacks.cells))
+  where
+    at : ((leb 1 (length m.stacks.cells) ≡ true) × (1 ≤ length m.stacks.cells)) ⊎ ((leb 1 (length m.stacks.cells) ≡ false) × (length m.stacks.cells < 1)) → do_cells dup_word m ≡ copied 0 m
+    at (inl q) = dup_leaves m q.0 q.1 ∙ rw q.0
+    at (inr q) = rw q.0
+
+pub over_copies : (m : Machine) → length m.stacks.cells ≤ 128 → do_cells over_word m ≡ copied 1 m
+over_copies m l = at (leb_tells 2 (length m.stacks.cells))
+  where
+    at : ((leb 2 (length m.stacks.cells) ≡ true) × (2 ≤ length m.stacks.cells)) ⊎ ((leb 2 (length m.stacks.cells) ≡ false) × (length m.stacks.cells < 2)) → do_cells over_word m ≡ copied 1 m
+    at (inl q) = over_leaves m q.0 q.1 ∙ rw q.0
+    at (inr q) = rw q.0
+
+pub swap_rolls : (m : Machine) → length m.stacks.cells ≤ 128 → do_cells swap_word m ≡ rolled_up 1 m
+swap_rolls m l = at (leb_tells 2 (length m.stacks.cells))
+  where
+    at : ((leb 2 (length m.stacks.cells) ≡ true) × (2 ≤ length m.stacks.cells)) ⊎ ((leb 2 (length m.stacks.cells) ≡ false) × (length m.stacks.cells < 2)) → do_cells swap_word m ≡ rolled_up 1 m
+    at (inl q) = rw (q.0, room_for 2 m q.1 l) (ap (λ ys. quietly (with_cells ys m)) (sym (swap_list m.stacks.cells q.1)))
+    at (inr q) = rw q.0
+
+pub rot_rolls : (m : Machine) → length m.stacks.cells ≤ 128 → do_cells rot_word m ≡ rolled_up 2 m
+rot_rolls m l = at (leb_tells 3 (length m.stacks.cells))
+  where
+    at : ((leb 3 (length m.stacks.cells) ≡ true) × (3 ≤ length m.stacks.cells)) ⊎ ((leb 3 (length m.stacks.cells) ≡ false) × (length m.stacks.cells < 3)) → do_cells rot_word m ≡ rolled_up 2 m
+    at (inl q) = rw (q.0, room_for 3 m q.1 l) (ap (λ ys. quietly (with_cells ys m)) (sym (rot_list m.stacks.cells q.1)))
+    at (inr q) = rw q.0

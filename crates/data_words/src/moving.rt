@@ -1,98 +1,79 @@
 // The words that copy, drop or move cells.
-ghost use Rattle.std.specs.Prelude.{◌≡◌, ◌+◌, ◌<◌, length};
+ghost use Rattle.std.specs.Prelude.{ℕ, ◌<◌, List};
+ghost use Rattle.data_words.specs.Moving.{copied, Reaches, rolled_up};
 ghost use Rattle.data_words.specs.Numbers.{stack_number};
-ghost use Rattle.steps.specs.Does.{OnCells};
+ghost use Rattle.definition.specs.declared.registers.Mark.{Mark};
+ghost use Rattle.steps.specs.Does.{Does, OnCells, seen};
+ghost use Rattle.store.specs.Meaning.{Meaning};
 
 use super::words::StackWord;
 use definition::ranged::Registers;
 use fault::Fault;
-use steps::cells;
+use steps::cells::{self, Data};
 
-// How many cells PICK and ROLL ask for: the number on top, k cells to reach over, and the one that is meant.
-fn reaching_over(k: usize) -> usize
-    requires { k < 65536 }
-    ensures { result ≡ k + 2 }
+// DUP and OVER: the k-th cell is copied to the top.
+fn copy_cell(registers: &mut Registers, k: usize, cells: &mut [u16; 128]) -> Result<(), Fault>
+    requires { k < 128 }
+    ensures { (i t : List ℕ) (n : List Mark) (s : Meaning) → Does (copied k) (seen registers.old i cells.old t n s) result (seen registers.new i cells.new t n s) }
 {
-    k + 2
-}
-
-fn dup(registers: &mut Registers, cells: &mut [u16]) -> Result<(), Fault>
-    requires { length cells.old ≡ 128 }
-    ensures { OnCells (1) registers.old cells.old result registers.new cells.new }
-{
-    cells::need(registers, 1)?;
-    let x = cells::cell(registers, cells, 0);
+    cells::need::<Data>(registers, k + 1)?;
+    let x = cells::cell::<Data>(registers, cells, k);
     cells::leave(registers, cells, x)
 }
 
-fn drop_cell(registers: &mut Registers, cells: &mut [u16]) -> Result<(), Fault>
-    requires { length cells.old ≡ 128 }
-    ensures { OnCells (2) registers.old cells.old result registers.new cells.new }
+// SWAP and ROT: the k-th cell is taken out and put on top.
+fn roll_cell(registers: &Registers, k: usize, cells: &mut [u16; 128]) -> Result<(), Fault>
+    requires { k < 128 }
+    ensures { (i t : List ℕ) (n : List Mark) (s : Meaning) → Does (rolled_up k) (seen registers.now i cells.old t n s) result (seen registers.now i cells.new t n s) }
 {
-    cells::need(registers, 1)?;
-    cells::release(registers, cells, 1);
+    cells::need::<Data>(registers, k + 1)?;
+    stacks::roll(cells, usize::from(registers.seat.depths.cells), k);
     Ok(())
 }
 
-fn swap(registers: &mut Registers, cells: &mut [u16]) -> Result<(), Fault>
-    requires { length cells.old ≡ 128 }
-    ensures { OnCells (3) registers.old cells.old result registers.new cells.new }
+fn drop_cell(registers: &mut Registers, cells: &mut [u16; 128]) -> Result<(), Fault>
+    ensures { OnCells 2 registers.old cells.old result registers.new cells.new }
 {
-    cells::need(registers, 2)?;
-    stacks::roll(cells, usize::from(registers.seat.depths.cells), 1);
+    cells::need::<Data>(registers, 1)?;
+    cells::release::<Data>(registers, cells, 1);
     Ok(())
 }
 
-fn over(registers: &mut Registers, cells: &mut [u16]) -> Result<(), Fault>
-    requires { length cells.old ≡ 128 }
-    ensures { OnCells (4) registers.old cells.old result registers.new cells.new }
+fn question_dup(registers: &mut Registers, cells: &mut [u16; 128]) -> Result<(), Fault>
+    ensures { OnCells 6 registers.old cells.old result registers.new cells.new }
 {
-    cells::need(registers, 2)?;
-    let x = cells::cell(registers, cells, 1);
-    cells::leave(registers, cells, x)
-}
-
-fn rot(registers: &mut Registers, cells: &mut [u16]) -> Result<(), Fault>
-    requires { length cells.old ≡ 128 }
-    ensures { OnCells (5) registers.old cells.old result registers.new cells.new }
-{
-    cells::need(registers, 3)?;
-    stacks::roll(cells, usize::from(registers.seat.depths.cells), 2);
-    Ok(())
-}
-
-fn question_dup(registers: &mut Registers, cells: &mut [u16]) -> Result<(), Fault>
-    requires { length cells.old ≡ 128 }
-    ensures { OnCells (6) registers.old cells.old result registers.new cells.new }
-{
-    cells::need(registers, 1)?;
-    let x = cells::cell(registers, cells, 0);
+    cells::need::<Data>(registers, 1)?;
+    let x = cells::cell::<Data>(registers, cells, 0);
     if x == 0 {
         return Ok(());
     }
     cells::leave(registers, cells, x)
 }
 
-fn pick(registers: &mut Registers, cells: &mut [u16]) -> Result<(), Fault>
-    requires { length cells.old ≡ 128 }
-    ensures { OnCells (8) registers.old cells.old result registers.new cells.new }
+// PICK and ROLL: the number k on top, if there are k cells to reach over and the one that is meant.
+fn reached_over(registers: &Registers, cells: &[u16; 128]) -> Result<usize, Fault>
+    ensures { Reaches registers.now cells.now result }
 {
-    cells::need(registers, 1)?;
-    let k = usize::from(cells::cell(registers, cells, 0));
-    cells::need(registers, reaching_over(k))?;
-    let x = cells::cell(registers, cells, k + 1);
+    cells::need::<Data>(registers, 1)?;
+    let k = usize::from(cells::cell::<Data>(registers, cells, 0));
+    cells::need::<Data>(registers, k + 2)?;
+    Ok(k)
+}
+
+fn pick(registers: &mut Registers, cells: &mut [u16; 128]) -> Result<(), Fault>
+    ensures { OnCells 8 registers.old cells.old result registers.new cells.new }
+{
+    let k = reached_over(registers, cells)?;
+    let x = cells::cell::<Data>(registers, cells, k + 1);
     cells::replace(registers, cells, 1, x);
     Ok(())
 }
 
-fn roll(registers: &mut Registers, cells: &mut [u16]) -> Result<(), Fault>
-    requires { length cells.old ≡ 128 }
-    ensures { OnCells (9) registers.old cells.old result registers.new cells.new }
+fn roll(registers: &mut Registers, cells: &mut [u16; 128]) -> Result<(), Fault>
+    ensures { OnCells 9 registers.old cells.old result registers.new cells.new }
 {
-    cells::need(registers, 1)?;
-    let k = usize::from(cells::cell(registers, cells, 0));
-    cells::need(registers, reaching_over(k))?;
-    cells::release(registers, cells, 1);
+    let k = reached_over(registers, cells)?;
+    cells::release::<Data>(registers, cells, 1);
     stacks::roll(cells, usize::from(registers.seat.depths.cells), k);
     Ok(())
 }
@@ -101,17 +82,17 @@ fn roll(registers: &mut Registers, cells: &mut [u16]) -> Result<(), Fault>
 pub fn stack_word(
     registers: &mut Registers,
     word: StackWord,
-    cells: &mut [u16],
+    cells: &mut [u16; 128],
 ) -> Result<(), Fault>
-    requires { length cells.old ≡ 128 }
     ensures { OnCells (stack_number word) registers.old cells.old result registers.new cells.new }
 {
+    // One dispatch per step: a match on the word, and no table of functions.
     match word {
-        StackWord::Dup => dup(registers, cells),
+        StackWord::Dup => copy_cell(registers, 0, cells),
         StackWord::Drop => drop_cell(registers, cells),
-        StackWord::Swap => swap(registers, cells),
-        StackWord::Over => over(registers, cells),
-        StackWord::Rot => rot(registers, cells),
+        StackWord::Swap => roll_cell(registers, 1, cells),
+        StackWord::Over => copy_cell(registers, 1, cells),
+        StackWord::Rot => roll_cell(registers, 2, cells),
         StackWord::QuestionDup => question_dup(registers, cells),
         StackWord::Pick => pick(registers, cells),
         StackWord::Roll => roll(registers, cells),

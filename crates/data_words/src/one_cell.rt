@@ -1,59 +1,35 @@
 // The words that make one cell of one.
-ghost use Rattle.std.specs.Prelude.{◌≡◌, ◌+◌, length};
+ghost use Rattle.std.specs.Prelude.{◌≡◌, ◌+◌};
 ghost use Rattle.data_words.specs.Numbers.{unary_number};
 ghost use Rattle.data_words.specs.Tables.{of_one};
-ghost use Rattle.numbers.specs.Cells.{flag, halved, is_negative, magnitude, minus, negated};
+ghost use Rattle.numbers.specs.Cells.{flag};
 ghost use Rattle.steps.specs.Does.{OnCells};
 
 use super::words::UnaryWord;
 use definition::ranged::Registers;
 use fault::Fault;
-use steps::cells;
+use steps::cells::{self, Data};
 
 // Yes is all ones, no is 0.
 pub(crate) fn flag_of(answer: bool) -> u16
     ensures { result ≡ flag answer }
 {
-    if answer { 65535 } else { 0 }
-}
-
-pub(crate) fn difference(a: u16, b: u16) -> u16
-    ensures { result ≡ minus a b }
-{
-    a.wrapping_sub(b)
-}
-
-fn negative_of(a: u16) -> u16
-    ensures { result ≡ negated a }
-{
-    0u16.wrapping_sub(a)
-}
-
-// Half of a signed number, rounded down.
-fn half(a: u16) -> u16
-    ensures { result ≡ halved a }
-{
-    if a >= 32768 { 32768 + a / 2 } else { a / 2 }
-}
-
-fn size(a: u16) -> u16
-    ensures { result ≡ magnitude a }
-{
-    if a >= 32768 { 65535 - a + 1 } else { a }
+    if answer { u16::MAX } else { 0 }
 }
 
 fn of_one(word: UnaryWord, a: u16) -> u16
     ensures { result ≡ of_one word a }
 {
+    // One dispatch per step: a match on the word, and no table of functions.
     match word {
         UnaryWord::OnePlus => a.wrapping_add(1),
-        UnaryWord::OneMinus => difference(a, 1),
-        UnaryWord::TwoSlash => half(a),
-        UnaryWord::Negate => negative_of(a),
-        UnaryWord::Abs => size(a),
+        UnaryWord::OneMinus => a.wrapping_sub(1),
+        UnaryWord::TwoSlash => (a.cast_signed() >> 1).cast_unsigned(),
+        UnaryWord::Negate => a.wrapping_neg(),
+        UnaryWord::Abs => a.cast_signed().unsigned_abs(),
         UnaryWord::Not => !a,
         UnaryWord::ZeroEqual => flag_of(a == 0),
-        UnaryWord::ZeroLess => flag_of(a >= 32768),
+        UnaryWord::ZeroLess => flag_of(a.cast_signed() < 0),
     }
 }
 
@@ -61,13 +37,12 @@ fn of_one(word: UnaryWord, a: u16) -> u16
 pub fn unary_word(
     registers: &mut Registers,
     word: UnaryWord,
-    cells: &mut [u16],
+    cells: &mut [u16; 128],
 ) -> Result<(), Fault>
-    requires { length cells.old ≡ 128 }
     ensures { OnCells (unary_number word) registers.old cells.old result registers.new cells.new }
 {
-    cells::need(registers, 1)?;
-    let a = cells::cell(registers, cells, 0);
+    cells::need::<Data>(registers, 1)?;
+    let a = cells::cell::<Data>(registers, cells, 0);
     cells::replace(registers, cells, 1, of_one(word, a));
     Ok(())
 }

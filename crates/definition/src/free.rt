@@ -5,12 +5,6 @@ ghost use Rattle.definition.specs.View.{is_free};
 
 use super::registers::Shared;
 
-fn is_between(shared: &Shared, address: u16) -> bool
-    ensures { result ≡ is_free shared.now address }
-{
-    shared.ends.dp <= address && address < 32768 || shared.ends.here <= address
-}
-
 impl Shared {
     // Bytes from DP to 32,767 and from HERE on are free: machines that are equal in all else have equal views.
     pub fn is_free(&self, address: u16) -> bool
@@ -18,6 +12,6 @@ impl Shared {
         ensures agree { AgreeIsEqualViews }
         ensures dictionary { ViewDictionary }
     {
-        is_between(self, address)
+        (self.ends.dp..32768).contains(&address) || self.ends.here <= address
     }
 }

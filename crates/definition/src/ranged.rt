@@ -4,7 +4,7 @@ ghost use Rattle.definition.specs.Ranges.{counted, load_at, settled};
 
 use super::registers::{Seat, Shared};
 
-#[derive(Clone, Copy)]
+#[derive(Clone, Copy, PartialEq, Eq, Debug)]
 pub struct Registers {
     pub shared: Shared,
     pub seat: Seat,

@@ -5,7 +5,7 @@ ghost use Rattle.definition.specs.Ranges.{resting};
 use dictionary::registers::{Ends, Names, SearchOrder};
 
 // What a mark stands for: an unfinished IF, BEGIN, WHILE or DO.
-#[derive(Clone, Copy)]
+#[derive(Clone, Copy, PartialEq, Eq, Debug)]
 pub enum Kind {
     If,
     Begin,
@@ -13,21 +13,21 @@ pub enum Kind {
     Do,
 }
 
-#[derive(Clone, Copy)]
+#[derive(Clone, Copy, PartialEq, Eq, Debug)]
 pub struct Mark {
     pub kind: Kind,
     pub address: u16,
 }
 
 // The block that the buffer holds, if any, and the update flag.
-#[derive(Clone, Copy)]
+#[derive(Clone, Copy, PartialEq, Eq, Debug, Default)]
 pub struct Buffer {
     pub held: Option<u16>,
     pub updated: bool,
 }
 
 // What all seats share.
-#[derive(Clone, Copy)]
+#[derive(Clone, Copy, PartialEq, Eq, Debug)]
 pub struct Shared {
     pub ends: Ends,
     pub names: Names,
@@ -35,14 +35,14 @@ pub struct Shared {
 }
 
 // The compiling flag and the instruction pointer IP.
-#[derive(Clone, Copy)]
+#[derive(Clone, Copy, PartialEq, Eq, Debug, Default)]
 pub struct Flow {
     pub compiling: bool,
     pub ip: u16,
 }
 
 // How many cells, return cells and marks are in use.
-#[derive(Clone, Copy)]
+#[derive(Clone, Copy, PartialEq, Eq, Debug, Default)]
 pub struct Depths {
     pub cells: u16,
     pub returns: u16,
@@ -50,29 +50,29 @@ pub struct Depths {
 }
 
 // Where text goes on: BLK and >IN. An open load keeps its caller's.
-#[derive(Clone, Copy)]
+#[derive(Clone, Copy, PartialEq, Eq, Debug, Default)]
 pub struct Position {
     pub blk: u16,
     pub offset: u16,
 }
 
 // The last word taken: its place in its text, and its length.
-#[derive(Clone, Copy)]
+#[derive(Clone, Copy, PartialEq, Eq, Debug, Default)]
 pub struct LastWord {
     pub start: u16,
     pub length: u16,
 }
 
 // The line's length, where text goes on, and the last word.
-#[derive(Clone, Copy)]
+#[derive(Clone, Copy, PartialEq, Eq, Debug, Default)]
 pub struct Source {
     pub length: u16,
     pub position: Position,
     pub word: LastWord,
 }
 
-// The open loads, the outermost first; those past `count` are free.
-#[derive(Clone, Copy)]
+// The open loads, the outermost first; those past `count` are free. Named fields and no array: registers are plain numbers.
+#[derive(Clone, Copy, PartialEq, Eq, Debug, Default)]
 pub struct Loads {
     pub count: u16,
     pub first: Position,
@@ -86,7 +86,7 @@ pub struct Loads {
 }
 
 // What a seat has of its own.
-#[derive(Clone, Copy)]
+#[derive(Clone, Copy, PartialEq, Eq, Debug)]
 pub struct Seat {
     pub order: SearchOrder,
     pub flow: Flow,
@@ -100,38 +100,15 @@ impl Seat {
     pub fn at_rest(order: SearchOrder, word: LastWord) -> Seat
         ensures { result ≡ resting order word }
     {
-        let start = Position { blk: 0, offset: 0 };
-        let flow = Flow {
-            compiling: false,
-            ip: 0,
-        };
-        let depths = Depths {
-            cells: 0,
-            returns: 0,
-            marks: 0,
-        };
-        let source = Source {
-            length: 0,
-            position: start,
-            word,
-        };
-        let loads = Loads {
-            count: 0,
-            first: start,
-            second: start,
-            third: start,
-            fourth: start,
-            fifth: start,
-            sixth: start,
-            seventh: start,
-            eighth: start,
-        };
         Seat {
             order,
-            flow,
-            depths,
-            source,
-            loads,
+            flow: Flow::default(),
+            depths: Depths::default(),
+            source: Source {
+                word,
+                ..Source::default()
+            },
+            loads: Loads::default(),
         }
     }
 }

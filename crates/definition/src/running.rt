@@ -2,12 +2,6 @@
 ghost use Rattle.std.specs.Prelude.{◌≡◌, nat_le};
 ghost use Rattle.definition.specs.Laws.{RunCut, RunOnly, RunOutcome};
 
-fn at_most(typed: usize, space: usize) -> bool
-    ensures { result ≡ nat_le typed space }
-{
-    typed <= space
-}
-
 // Do the bytes that a step types fit into the space left? A run takes faultless steps while they do, and a run cut in two is the same run.
 pub fn has_space(typed: usize, space: usize) -> bool
     ensures value { result ≡ nat_le typed space }
@@ -15,5 +9,5 @@ pub fn has_space(typed: usize, space: usize) -> bool
     ensures only { RunOnly }
     ensures cut { RunCut }
 {
-    at_most(typed, space)
+    typed <= space
 }

@@ -4,7 +4,7 @@ ghost use Rattle.executing.specs.Tokens.{Pops, Released, Through, is_execute};
 
 use definition::ranged::Registers;
 use fault::Fault;
-use steps::cells;
+use steps::cells::{self, Data};
 
 // The code of EXECUTE.
 const EXECUTE: u16 = 59;
@@ -23,9 +23,9 @@ fn executes(registers: &Registers, image: &[u8; 65536], token: u16) -> bool
 fn pop(registers: &mut Registers, cells: &[u16; 128]) -> Result<u16, Fault>
     ensures { Pops registers.old cells.now result registers.new }
 {
-    cells::need(registers, 1)?;
-    let x = cells::cell(registers, cells, 0);
-    cells::release(registers, cells, 1);
+    cells::need::<Data>(registers, 1)?;
+    let x = cells::cell::<Data>(registers, cells, 0);
+    cells::release::<Data>(registers, cells, 1);
     Ok(x)
 }
 

@@ -1,5 +1,5 @@
 -- How the definition comes to the end of each word on the return stack.
-use Rattle.std.proofs.Common.{◌≡◌, ℕ, ◌+◌, ◌<◌, ◌≤◌, true, false, List, [], ◌∷◌, length, get_or, Ok, Err, sym, refl, ap, ◌∙◌}
+use Rattle.std.proofs.Common.{◌≡◌, ℕ, ◌+◌, ◌<◌, ◌≤◌, true, false, List, [], ◌∷◌, length, get_or, Ok, Err, Result, sym, refl, ap, ◌∙◌}
 use Rattle.fault.specs.declared.Fault.{Fault}
 use Rattle.fault.specs.declared.Reason.{Reason}
 use Rattle.fault.specs.declared.Reason.TheVariants.{StackUnderflow, StackOverflow, ReturnUnderflow, ReturnOverflow}
@@ -16,11 +16,13 @@ use Rattle.definition.specs.Words.{Argument, perform}
 use Rattle.definition.specs.Stacks.{has_cells, has_room, has_returns, has_return_room, nth, nth_return, popped, pushed, popped_returns, pushed_returns, go_to}
 use Rattle.definition.specs.Flow.{do_returns}
 use Rattle.steps.specs.Seats.{told_by}
-use Rattle.steps.specs.Does.{seen, acts, OnReturns}
-use Rattle.steps.proofs.Exits.{refused_at, has_cells_lem, lacks_cells}
+use Rattle.steps.specs.Does.{seen, acts, Does, OnReturns}
+use Rattle.steps.proofs.Exits.{refused_at, does_like, has_cells_lem, lacks_cells}
+use Rattle.flow_words.specs.declared.words.ReturnsWord.{ReturnsWord as Word}
+use Rattle.flow_words.specs.Numbers.{returns_number, copied_place}
 use Rattle.flow_words.proofs.Views.{deep, deep_returns, Popped, Pushed, PoppedReturns, PushedReturn, Went, pop_view, push_view, pop_return_view, push_return_view, go_view, has_returns_lem, lacks_returns, has_return_room_lem, lacks_return_room, has_one, lacks_one}
 
-abbrev Acts : ℕ → ReturnsWord → Type 0
+abbrev pub Acts : ℕ → ReturnsWord → Type 0
 Acts n w = (again : ℕ → Machine → Asked After) (a : Argument) (m : Machine) → acts n again a m ≡ do_returns w m
 
 exit_acts : Acts 91 Kernel.exit
@@ -128,25 +130,35 @@ module _ (r : Registers) (c t : List ℕ) (lc : length c ≡ 128) (lt : length t
       to_r_acts again a (seen r i c t k s) ∙ to_r_yes (seen r i c t k s) (has_cells_lem r i c t k s lc 1 h) (has_return_room_lem r i c t k s lt 1 b)
       ∙ ap quietly (sym (push_return_view r' r'' i c c t t' k s x v ∙ ap (pushed_returns (x ∷ [])) (pop_view r r' i c c t t k s 1 u) ∙ ap (λ y. pushed_returns (y ∷ []) (popped 1 (seen r i c t k s))) p))
 
-  pub r_from_over : (e : Fault) → 128 ≤ deep r → e ≡ fault_of StackOverflow (told_by r.seat) → (i : List ℕ) → OnReturns 93 r i c t (Err e) r c t
+  pub r_from_over : (e : Fault) → 128 < 1 + deep r → e ≡ fault_of StackOverflow (told_by r.seat) → (i : List ℕ) → OnReturns 93 r i c t (Err e) r c t
   r_from_over e h p = refuses 93 Kernel.from_r r_from_acts r c t e StackOverflow (λ i k s. r_from_full (seen r i c t k s) (lacks_one r i c t k s lc h)) p
 
-  pub r_from_short : (e : Fault) → deep r < 128 → deep_returns r < 1 → e ≡ fault_of ReturnUnderflow (told_by r.seat) → (i : List ℕ) → OnReturns 93 r i c t (Err e) r c t
+  pub r_from_short : (e : Fault) → 1 + deep r ≤ 128 → deep_returns r < 1 → e ≡ fault_of ReturnUnderflow (told_by r.seat) → (i : List ℕ) → OnReturns 93 r i c t (Err e) r c t
   r_from_short e h b p = refuses 93 Kernel.from_r r_from_acts r c t e ReturnUnderflow (λ i k s. r_from_no (seen r i c t k s) (has_one r i c t k s lc h) (lacks_returns r i c t k s lt 1 b)) p
 
-  pub r_from_done : (r' r'' : Registers) (c' : List ℕ) (x : ℕ) → deep r < 128 → 1 ≤ deep_returns r → x ≡ top (deep_returns r) t 0 → PoppedReturns r r' t 1 → Pushed r' r'' c c' x → (i : List ℕ) → OnReturns 93 r i c t (Ok tt) r'' c' t
+  pub r_from_done : (r' r'' : Registers) (c' : List ℕ) (x : ℕ) → 1 + deep r ≤ 128 → 1 ≤ deep_returns r → x ≡ top (deep_returns r) t 0 → PoppedReturns r r' t 1 → Pushed r' r'' c c' x → (i : List ℕ) → OnReturns 93 r i c t (Ok tt) r'' c' t
   r_from_done r' r'' c' x h b p u v i = λ again a k s.
       r_from_acts again a (seen r i c t k s) ∙ r_from_yes (seen r i c t k s) (has_one r i c t k s lc h) (has_returns_lem r i c t k s lt 1 b)
       ∙ ap quietly (sym (push_view r' r'' i c c' t t k s x v ∙ ap (pushed x) (pop_return_view r r' i c t k s 1 u) ∙ ap (λ y. pushed y (popped_returns 1 (seen r i c t k s))) p))
 
   -- R@, I and J: the j-th return cell
-  pub copy_over : (n j : ℕ) → Acts n (Kernel.copy_at j) → (e : Fault) → 128 ≤ deep r → e ≡ fault_of StackOverflow (told_by r.seat) → (i : List ℕ) → OnReturns n r i c t (Err e) r c t
-  copy_over n j q e h p = refuses n (Kernel.copy_at j) q r c t e StackOverflow (λ i k s. copy_full j (seen r i c t k s) (lacks_one r i c t k s lc h)) p
+  abbrev Copies : ℕ → Result (Unit {0}) Fault → Registers → List ℕ → Type 0
+  Copies j o r' c' = (i : List ℕ) (k : List Mark) (s : Meaning) → Does (do_returns (Kernel.copy_at j)) (seen r i c t k s) o (seen r' i c' t k s)
 
-  pub copy_short : (n j : ℕ) → Acts n (Kernel.copy_at j) → (e : Fault) → deep r < 128 → deep_returns r < j + 1 → e ≡ fault_of ReturnUnderflow (told_by r.seat) → (i : List ℕ) → OnReturns n r i c t (Err e) r c t
-  copy_short n j q e h b p = refuses n (Kernel.copy_at j) q r c t e ReturnUnderflow (λ i k s. copy_no j (seen r i c t k s) (has_one r i c t k s lc h) (lacks_returns r i c t k s lt (j + 1) b)) p
+  pub copy_over : (j : ℕ) (e : Fault) → 128 < 1 + deep r → e ≡ fault_of StackOverflow (told_by r.seat) → Copies j (Err e) r c
+  copy_over j e h p i k s = refused_at (do_returns (Kernel.copy_at j)) (seen r i c t k s) e StackOverflow (copy_full j (seen r i c t k s) (lacks_one r i c t k s lc h)) p
 
-  pub copy_done : (n j : ℕ) → Acts n (Kernel.copy_at j) → (r' : Registers) (c' : List ℕ) (x : ℕ) → deep r < 128 → j + 1 ≤ deep_returns r → x ≡ top (deep_returns r) t j → Pushed r r' c c' x → (i : List ℕ) → OnReturns n r i c t (Ok tt) r' c' t
-  copy_done n j q r' c' x h b p v i = λ again a k s.
-      q again a (seen r i c t k s) ∙ copy_yes j (seen r i c t k s) (has_one r i c t k s lc h) (has_returns_lem r i c t k s lt (j + 1) b)
+  pub copy_short : (j : ℕ) (e : Fault) → 1 + deep r ≤ 128 → deep_returns r < j + 1 → e ≡ fault_of ReturnUnderflow (told_by r.seat) → Copies j (Err e) r c
+  copy_short j e h b p i k s = refused_at (do_returns (Kernel.copy_at j)) (seen r i c t k s) e ReturnUnderflow (copy_no j (seen r i c t k s) (has_one r i c t k s lc h) (lacks_returns r i c t k s lt (j + 1) b)) p
+
+  pub copy_done : (j : ℕ) (r' : Registers) (c' : List ℕ) (x : ℕ) → 1 + deep r ≤ 128 → j + 1 ≤ deep_returns r → x ≡ top (deep_returns r) t j → Pushed r r' c c' x → Copies j (Ok tt) r' c'
+  copy_done j r' c' x h b p v i k s =
+      copy_yes j (seen r i c t k s) (has_one r i c t k s lc h) (has_returns_lem r i c t k s lt (j + 1) b)
       ∙ ap quietly (sym (push_view r r' i c c' t t k s x v ∙ ap (λ y. pushed y (seen r i c t k s)) p))
+
+  -- a word of the table that copies
+  pub copied : (v w : Word) → v ≡ w → Acts (returns_number w) (Kernel.copy_at (copied_place w)) → (j : ℕ) → j ≡ copied_place v → (o : Result (Unit {0}) Fault) (r' : Registers) (c' : List ℕ) → Copies j o r' c' → (i : List ℕ) → OnReturns (returns_number v) r i c t o r' c' t
+  copied v w p q j e o r' c' h i = λ again a k s.
+      let m = seen r i c t k s in
+      let like : acts (returns_number v) again a m ≡ do_returns (Kernel.copy_at j) m = rw p (q again a m) ∙ sym (ap (λ y. do_returns (Kernel.copy_at y) m) (e ∙ ap copied_place p)) in
+      does_like (acts (returns_number v) again a) (do_returns (Kernel.copy_at j)) m (seen r' i c' t k s) o like (h i k s)

@@ -24,7 +24,8 @@ use Rattle.definition.proofs.Agreeing.{dp_bottom}
 use Rattle.steps.specs.Seats.{told_by}
 use Rattle.steps.specs.Does.{seen, acts, OnReturns, Does}
 use Rattle.steps.proofs.Exits.{refused_at, has_cells_lem, lacks_cells}
-use Rattle.flow_words.specs.Numbers.{inside, passes}
+use Rattle.steps.specs.Inside.{inside}
+use Rattle.flow_words.specs.Numbers.{passes}
 use Rattle.flow_words.specs.Turns.{turned}
 use Rattle.flow_words.proofs.Views.{deep, deep_returns, Popped, Pushed, PoppedReturns, PushedReturn, Went, Skipped, pop_view, push_view, pop_return_view, push_return_view, go_view, skip_view, has_returns_lem, lacks_returns, has_return_room_lem, lacks_return_room, has_one, lacks_one}
 
@@ -143,13 +144,13 @@ module _ (r : Registers) (i c t : List ℕ) (li : length i ≡ 65536) (lc : leng
   refuses : (n : ℕ) (w : InlineWord) → Acts n w → (e : Fault) (why : Reason) → ((k : List Mark) (s : Meaning) → do_inline w (seen r i c t k s) ≡ refused why (seen r i c t k s)) → Bad e why → OnReturns n r i c t (Err e) r c t
   refuses n w q e why h p = λ again a k s. refused_at (acts n again a) (seen r i c t k s) e why (q again a (seen r i c t k s) ∙ h k s) p
 
-  pub lit_over : (e : Fault) → 128 ≤ deep r → Bad e StackOverflow → OnReturns 98 r i c t (Err e) r c t
+  pub lit_over : (e : Fault) → 128 < 1 + deep r → Bad e StackOverflow → OnReturns 98 r i c t (Err e) r c t
   lit_over e h p = refuses 98 Kernel.lit lit_acts e StackOverflow (λ k s. lit_full (seen r i c t k s) (lacks_one r i c t k s lc h)) p
 
-  pub lit_bad : (e : Fault) → deep r < 128 → Is false → Bad e BadToken → OnReturns 98 r i c t (Err e) r c t
+  pub lit_bad : (e : Fault) → 1 + deep r ≤ 128 → Is false → Bad e BadToken → OnReturns 98 r i c t (Err e) r c t
   lit_bad e h b p = refuses 98 Kernel.lit lit_acts e BadToken (λ k s. lit_no (seen r i c t k s) (has_one r i c t k s lc h) (inline_is k s false b)) p
 
-  pub lit_done : (r' r'' : Registers) (c' : List ℕ) (x : ℕ) → deep r < 128 → Is true → x ≡ word → Skipped r r' → Pushed r' r'' c c' x → OnReturns 98 r i c t (Ok tt) r'' c' t
+  pub lit_done : (r' r'' : Registers) (c' : List ℕ) (x : ℕ) → 1 + deep r ≤ 128 → Is true → x ≡ word → Skipped r r' → Pushed r' r'' c c' x → OnReturns 98 r i c t (Ok tt) r'' c' t
   lit_done r' r'' c' x h b p u v = λ again a k s.
       lit_acts again a (seen r i c t k s) ∙ lit_yes (seen r i c t k s) (has_one r i c t k s lc h) (inline_is k s true b)
       ∙ ap quietly (sym (push_view r' r'' i c c' t t k s x v ∙ ap (pushed x) (skip_view r r' i c c t t k s u) ∙ ap (λ y. pushed y (past (seen r i c t k s))) p))

@@ -11,7 +11,7 @@ use Rattle.definition.specs.View.{lent, view_of}
 use Rattle.definition.specs.Stacks.{popped, pushed, popped_returns, pushed_returns, go_to, has_returns, has_return_room, has_room}
 use Rattle.steps.specs.Seats.{with_cell_depth, with_return_depth, with_pointer}
 use Rattle.steps.specs.Does.{seen}
-use Rattle.steps.proofs.Exits.{yes, no, cells_view}
+use Rattle.steps.proofs.Exits.{yes, no, depth_of, cells_view}
 
 abbrev pub deep : Registers → ℕ
 deep r = r.seat.depths.cells
@@ -103,11 +103,8 @@ module _ (r : Registers) (i c t : List ℕ) (k : List Mark) (s : Meaning) (l : l
   lacks_return_room n h = ap (λ d. leb (n + d) 128) returns_deep ∙ no (n + deep_returns r) 128 h
 
 module _ (r : Registers) (i c t : List ℕ) (k : List Mark) (s : Meaning) (l : length c ≡ 128) where
-  deep_is : length (stack_of (deep r) c) ≡ deep r
-  deep_is = length_stack (deep r) c (omega (arith, r.cells))
+  pub has_one : 1 + deep r ≤ 128 → has_room 1 (seen r i c t k s) ≡ true
+  has_one h = ap (λ d. leb (1 + d) 128) (depth_of r i c t k s l) ∙ yes (1 + deep r) 128 h
 
-  pub has_one : deep r < 128 → has_room 1 (seen r i c t k s) ≡ true
-  has_one h = ap (λ d. leb (1 + d) 128) deep_is ∙ yes (1 + deep r) 128 (omega arith)
-
-  pub lacks_one : 128 ≤ deep r → has_room 1 (seen r i c t k s) ≡ false
-  lacks_one h = ap (λ d. leb (1 + d) 128) deep_is ∙ no (1 + deep r) 128 (omega arith)
+  pub lacks_one : 128 < 1 + deep r → has_room 1 (seen r i c t k s) ≡ false
+  lacks_one h = ap (λ d. leb (1 + d) 128) (depth_of r i c t k s l) ∙ no (1 + deep r) 128 h

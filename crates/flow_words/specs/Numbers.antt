@@ -1,5 +1,5 @@
--- The number of each word in the kernel table, what lies in the dictionary, and when a loop ends.
-use Rattle.std.specs.Prelude.{ℕ, ◌+◌, Bool, ◌&&◌, nat_le, nat_lt, if◌then◌else◌}
+-- The number of each word in the kernel table, what is copied, and when a loop ends.
+use Rattle.std.specs.Prelude.{ℕ, ◌+◌, Bool, nat_lt, if◌then◌else◌}
 use Rattle.numbers.specs.Cells.{is_negative, magnitude}
 use Rattle.flow_words.specs.declared.words.ReturnsWord.{ReturnsWord}
 use Rattle.flow_words.specs.declared.words.InlineWord.{InlineWord}
@@ -13,6 +13,11 @@ returns_number ReturnsWord.Index = 95
 returns_number ReturnsWord.OuterIndex = 96
 returns_number ReturnsWord.Leave = 97
 
+-- which return cell it copies, of R@, I and J
+abbrev pub copied_place : ReturnsWord → ℕ
+copied_place ReturnsWord.OuterIndex = 3
+copied_place _ = 0
+
 abbrev pub inline_number : InlineWord → ℕ
 inline_number InlineWord.Literal = 98
 inline_number InlineWord.Branch = 99
@@ -20,10 +25,6 @@ inline_number InlineWord.QuestionBranch = 100
 inline_number InlineWord.Do = 101
 inline_number InlineWord.Loop = 102
 inline_number InlineWord.PlusLoop = 103
-
--- n bytes at a, with this DP
-abbrev pub inside : ℕ → ℕ → ℕ → Bool
-inside a n dp = nat_le 256 a && nat_le (a + n) dp
 
 -- s is (index - limit) modulo 65,536; adding n ends the loop if s + n is above 65,535 or below 0
 abbrev pub passes : ℕ → ℕ → Bool

@@ -25,9 +25,17 @@ use Rattle.definition.specs.Space.{do_space}
 use Rattle.steps.specs.Seats.{told_by, with_cell_depth}
 use Rattle.steps.specs.Does.{seen, acts, OnSpace}
 use Rattle.steps.proofs.Exits.{refused_at, has_cells_lem, lacks_cells}
+use Rattle.space_words.proofs.Written.{built, here_is}
 use Rattle.growing_words.specs.Numbers.{with_here}
 use Rattle.growing_words.specs.Allotting.{moved_by, lowest_of, allowed}
-use Rattle.growing_words.proofs.Appending.{deep, end, built, here_is}
+use Rattle.growing_words.proofs.Appending.{deep, end}
+
+le_unless : (b a : ℕ) → (a < b → ⊥) → b ≤ a
+le_unless b a h = by (leb_tells b a)
+  where
+    by : ((leb b a ≡ true) × (b ≤ a)) ⊎ ((leb b a ≡ false) × (a < b)) → b ≤ a
+    by (inl q) = q.1
+    by (inr q) = absurd (h q.1)
 
 -- a byte that lies in no dictionary counts as 0
 byte_before : (dp a : ℕ) (xs : List ℕ) → a < 256 → at (low_of dp xs) a ≡ 0
@@ -39,9 +47,12 @@ byte_before dp a xs h =
 byte_behind : (dp a : ℕ) (xs : List ℕ) → 256 ≤ dp → dp ≤ length xs → dp ≤ a → at (low_of dp xs) a ≡ 0
 byte_behind dp a xs b l h = get_or_past (low_of dp xs) a 0 (omega (arith, length_low dp xs b l))
 
-pub byte_outside : (dp a : ℕ) (xs : List ℕ) → 256 ≤ dp → dp ≤ length xs → (a < 256) ⊎ (dp ≤ a) → at (low_of dp xs) a ≡ 0
-byte_outside dp a xs b l (inl h) = byte_before dp a xs h
-byte_outside dp a xs b l (inr h) = byte_behind dp a xs b l h
+pub byte_outside : (dp a : ℕ) (xs : List ℕ) → 256 ≤ dp → dp ≤ length xs → (256 ≤ a → a < dp → ⊥) → at (low_of dp xs) a ≡ 0
+byte_outside dp a xs b l out = by (leb_tells 256 a)
+  where
+    by : ((leb 256 a ≡ true) × (256 ≤ a)) ⊎ ((leb 256 a ≡ false) × (a < 256)) → at (low_of dp xs) a ≡ 0
+    by (inl q) = byte_behind dp a xs b l (le_unless dp a (out q.1))
+    by (inr q) = byte_before dp a xs q.1
 
 abbrev low_in : Registers → List ℕ → List ℕ
 low_in r i = low_of r.shared.ends.dp i
@@ -102,7 +113,7 @@ module _ (r : Registers) (i c : List ℕ) (li : length i ≡ 65536) (lc : length
 
   asked_is : (t : List ℕ) (k : List Mark) (s : Meaning) (n : ℕ) (b : Bool) → n ≡ top → allowed bottom (moved_by (end r) n) ≡ b → allowed (floor (seen r i c t k s)) (moved_by (here (seen r i c t k s)) top) ≡ b
   asked_is t k s n b p q =
-      ap (λ y. allowed bottom (moved_by y top)) (here_is r i c li lc t k s) ∙ ap (λ y. allowed bottom (moved_by (end r) y)) (sym p) ∙ q
+      ap (λ y. allowed bottom (moved_by y top)) (here_is r i c t k s li) ∙ ap (λ y. allowed bottom (moved_by (end r) y)) (sym p) ∙ q
 
   pub short : (e : Fault) → deep r < 1 → e ≡ fault_of StackUnderflow (told_by r.seat) → OnSpace 46 r i c (Err e) r i c
   short e h p = λ again a t k s. refused_at (acts 46 again a) (seen r i c t k s) e StackUnderflow (allot_acts again a (seen r i c t k s) ∙ allot_short (seen r i c t k s) (lacks_cells r i c t k s lc 1 h)) p
@@ -123,7 +134,7 @@ module _ (r : Registers) (i c : List ℕ) (li : length i ≡ 65536) (lc : length
       let ce : stack_of (deep r - 1) c ≡ drop 1 (stack_of (deep r) c) = ap (λ y. stack_of (y - 1) c) (sym dn) ∙ st ∙ ap (λ y. drop 1 (stack_of y c)) dn in
       let q' : allowed bottom (moved_by (end r) n) ≡ true = ap (allowed bottom) (sym m) ∙ q in (
         (λ again a t k s.
-            let mo : moved_by (here (seen r i c t k s)) top ≡ to = ap (λ y. moved_by y top) (here_is r i c li lc t k s) ∙ ap (moved_by (end r)) (sym p) ∙ sym m in
+            let mo : moved_by (here (seen r i c t k s)) top ≡ to = ap (λ y. moved_by y top) (here_is r i c t k s li) ∙ ap (moved_by (end r)) (sym p) ∙ sym m in
             allot_acts again a (seen r i c t k s) ∙ allot_done (seen r i c t k s) (has_cells_lem r i c t k s lc 1 h) (asked_is t k s n true p q')
             ∙ ap (λ y. quietly (with_high (take (y - 32768) (high_of (end r) i) ++ zeros (y - 32768 - length (high_of (end r) i))) (popped 1 (seen r i c t k s)))) mo
             ∙ ap quietly (sym (ap (λ y. view_of y r2.seat (lent i' c t k) s) (u2 ∙ u1)

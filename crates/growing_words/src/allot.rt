@@ -1,6 +1,5 @@
 // ALLOT: data space longer or shorter.
-ghost use Rattle.std.specs.Prelude.{◌≡◌, ◌+◌, ◌-◌, ◌<◌, ◌≤◌, max, true, false, length, take, replicate, MatchResult};
-ghost use Rattle.fault.specs.Numbers.{fault_of};
+ghost use Rattle.std.specs.Prelude.{◌≡◌, ◌+◌, ◌-◌, ◌<◌, ◌≤◌, max, true, false, length, take, replicate};
 ghost use Rattle.fault.specs.declared.Reason.TheVariants.{DataFull};
 ghost use Rattle.growing_words.specs.Allotting.{allowed, lowest_of, moved_by};
 ghost use Rattle.growing_words.specs.Numbers.{with_here};
@@ -8,41 +7,23 @@ ghost use Rattle.image.specs.Cells.{at, cell_at};
 ghost use Rattle.image.specs.Views.{low_of};
 ghost use Rattle.image.specs.Writes.{overwritten};
 ghost use Rattle.steps.specs.Does.{OnSpace};
-ghost use Rattle.steps.specs.Seats.{told_by};
+ghost use Rattle.steps.specs.Seats.{IsAnswered};
 
 use definition::ranged::Registers;
-use entries::Entries;
 use fault::{Fault, Reason};
-use steps::cells;
+use steps::cells::{self, Data};
 use steps::faults::refusal;
-
-// HERE moved by a signed count.
-fn moved_by(here: u16, n: u16) -> usize
-    ensures { result ≡ moved_by here n }
-{
-    if n >= 32768 {
-        usize::from(here).saturating_sub(65536 - usize::from(n))
-    } else {
-        usize::from(here) + usize::from(n)
-    }
-}
-
-fn at_least_bottom(body: u16) -> u16
-    ensures value { result ≡ max 34048 body }
-    ensures low { 34048 ≤ result }
-{
-    if body > 34048 { body } else { 34048 }
-}
 
 // A byte of the dictionary; what does not lie in it counts as 0.
 fn byte_or_zero(image: &[u8; 65536], dp: u16, a: u16) -> u8
     requires { 256 ≤ dp }
     ensures { result ≡ at (low_of dp image.now) a }
 {
-    if a < 256 || a >= dp {
-        return 0;
+    if (256..dp).contains(&a) {
+        image[usize::from(a)]
+    } else {
+        0
     }
-    Entries::new(image, dp).byte(a)
 }
 
 // A cell of the dictionary, of such bytes.
@@ -51,8 +32,11 @@ fn cell_or_zero(image: &[u8; 65536], dp: u16, a: u16) -> u16
     requires inside { a < 65535 }
     ensures { result ≡ cell_at (low_of dp image.now) a }
 {
-    u16::from(byte_or_zero(image, dp, a)) + 256 * u16::from(byte_or_zero(image, dp, a + 1))
+    u16::from_le_bytes([byte_or_zero(image, dp, a), byte_or_zero(image, dp, a + 1)])
 }
+
+// Where HERE stands with no data allotted.
+const BOTTOM: u16 = 34048;
 
 // The lowest that HERE may go: the newest entry's first parameter cell, and not below 34,048.
 fn lowest(registers: &Registers, image: &[u8; 65536]) -> u16
@@ -63,24 +47,21 @@ fn lowest(registers: &Registers, image: &[u8; 65536]) -> u16
     let newest = registers.shared.names.newest;
     let length = byte_or_zero(image, dp, newest + 2) % 32;
     let first = newest + 5 + u16::from(length);
-    at_least_bottom(cell_or_zero(image, dp, first))
-}
-
-fn is_allowed(lowest: u16, end: usize) -> bool
-    ensures { result ≡ allowed lowest end }
-{
-    usize::from(lowest) <= end && end <= 65535
+    BOTTOM.max(cell_or_zero(image, dp, first))
 }
 
 // Where HERE goes, if it may.
 fn new_end(registers: &Registers, image: &[u8; 65536], n: u16) -> Result<u16, Fault>
-    ensures { MatchResult result (λ end. (end ≡ moved_by registers.now.shared.ends.here n) × (allowed (lowest_of (low_of registers.now.shared.ends.dp image.now) registers.now.shared.names.newest) end ≡ true) × (34048 ≤ end) × (end ≤ 65535)) (λ e. (allowed (lowest_of (low_of registers.now.shared.ends.dp image.now) registers.now.shared.names.newest) (moved_by registers.now.shared.ends.here n) ≡ false) × (e ≡ fault_of DataFull (told_by registers.now.seat))) }
+    ensures { IsAnswered result (λ end. (end ≡ moved_by registers.now.shared.ends.here n) × (allowed (lowest_of (low_of registers.now.shared.ends.dp image.now) registers.now.shared.names.newest) end ≡ true) × (34048 ≤ end) × (end ≤ 65535)) (allowed (lowest_of (low_of registers.now.shared.ends.dp image.now) registers.now.shared.names.newest) (moved_by registers.now.shared.ends.here n) ≡ false) DataFull registers.now.seat }
 {
-    let end = moved_by(registers.shared.ends.here, n);
-    if is_allowed(lowest(registers, image), end) {
-        return Ok(end as u16);
-    }
-    Err(refusal(registers, Reason::DataFull))
+    let lowest = lowest(registers, image);
+    let end = registers
+        .shared
+        .ends
+        .here
+        .checked_add_signed(n.cast_signed());
+    end.filter(|&end| lowest <= end)
+        .ok_or(refusal(registers, Reason::DataFull))
 }
 
 // HERE goes to an end, and what is added is cleared.
@@ -97,15 +78,18 @@ fn resize(registers: &mut Registers, image: &mut [u8; 65536], end: u16)
 }
 
 // ALLOT
-pub fn allot(registers: &mut Registers, image: &mut [u8; 65536], cells: &[u16]) -> Result<(), Fault>
-    requires { length cells.now ≡ 128 }
+pub fn allot(
+    registers: &mut Registers,
+    image: &mut [u8; 65536],
+    cells: &[u16; 128],
+) -> Result<(), Fault>
     ensures did { OnSpace 46 registers.old image.old cells.now result registers.new image.new cells.now }
     ensures below { take 256 image.new ≡ take 256 image.old }
 {
-    cells::need(registers, 1)?;
-    let n = cells::cell(registers, cells, 0);
+    cells::need::<Data>(registers, 1)?;
+    let n = cells::cell::<Data>(registers, cells, 0);
     let end = new_end(registers, image, n)?;
     resize(registers, image, end);
-    cells::release(registers, cells, 1);
+    cells::release::<Data>(registers, cells, 1);
     Ok(())
 }

@@ -1,25 +1,25 @@
 // Appending a cell or a byte to data space.
-ghost use Rattle.std.specs.Prelude.{◌≡◌, ◌+◌, ◌%◌, ◌<◌, ◌≤◌, length, take, MatchResult};
-ghost use Rattle.fault.specs.Numbers.{fault_of};
+ghost use Rattle.std.specs.Prelude.{◌≡◌, ℕ, ◌+◌, ◌<◌, ◌≤◌, take};
+ghost use Rattle.definition.specs.Kernel.{appends};
 ghost use Rattle.fault.specs.declared.Reason.TheVariants.{DataFull};
 ghost use Rattle.growing_words.specs.Numbers.{appending_number, with_here};
+ghost use Rattle.space_words.specs.Acting.{Acts};
 ghost use Rattle.steps.specs.Does.{OnSpace};
-ghost use Rattle.steps.specs.Seats.{told_by};
+ghost use Rattle.steps.specs.Seats.{IsAnswered};
 
 use super::words::AppendingWord;
 use definition::ranged::Registers;
 use fault::{Fault, Reason};
-use steps::cells;
-use steps::faults::refusal;
+use space_words::reaching::put;
+use steps::cells::{self, Data};
+use steps::faults::ask;
 
 // Is there data space for n bytes more?
 fn ask_space(registers: &Registers, n: u16) -> Result<(), Fault>
-    ensures { MatchResult result (λ _. registers.now.shared.ends.here + n ≤ 65535) (λ e. (65535 < registers.now.shared.ends.here + n) × (e ≡ fault_of DataFull (told_by registers.now.seat))) }
+    ensures { IsAnswered result (λ _. registers.now.shared.ends.here + n ≤ 65535) (65535 < registers.now.shared.ends.here + n) DataFull registers.now.seat }
 {
-    if usize::from(registers.shared.ends.here) + usize::from(n) > 65535 {
-        return Err(refusal(registers, Reason::DataFull));
-    }
-    Ok(())
+    let fits = registers.shared.ends.here.checked_add(n).is_some();
+    ask(registers, fits, Reason::DataFull)
 }
 
 // HERE moves up by n.
@@ -31,37 +31,23 @@ fn grow(registers: &mut Registers, n: u16)
     registers.shared.ends.here += n;
 }
 
-fn low_byte(x: u16) -> u8
-    ensures { result ≡ x % 256 }
-{
-    (x % 256) as u8
-}
-
-fn comma(registers: &mut Registers, image: &mut [u8], cells: &mut [u16]) -> Result<(), Fault>
-    requires { (length image.old ≡ 65536) × (length cells.old ≡ 128) }
-    ensures did { OnSpace 47 registers.old image.old cells.old result registers.new image.new cells.new }
+// , and C, append the n low bytes of a cell.
+fn append(
+    registers: &mut Registers,
+    n: u16,
+    image: &mut [u8; 65536],
+    cells: &[u16; 128],
+) -> Result<(), Fault>
+    requires { n ≤ 2 }
+    ensures did { (v : ℕ) → Acts v (appends n) → OnSpace v registers.old image.old cells.now result registers.new image.new cells.now }
     ensures below { take 256 image.new ≡ take 256 image.old }
 {
-    cells::need(registers, 1)?;
-    ask_space(registers, 2)?;
-    let x = cells::cell(registers, cells, 0);
-    image::store(image, usize::from(registers.shared.ends.here), x);
-    grow(registers, 2);
-    cells::release(registers, cells, 1);
-    Ok(())
-}
-
-fn comma_byte(registers: &mut Registers, image: &mut [u8], cells: &mut [u16]) -> Result<(), Fault>
-    requires { (length image.old ≡ 65536) × (length cells.old ≡ 128) }
-    ensures did { OnSpace 48 registers.old image.old cells.old result registers.new image.new cells.new }
-    ensures below { take 256 image.new ≡ take 256 image.old }
-{
-    cells::need(registers, 1)?;
-    ask_space(registers, 1)?;
-    let x = low_byte(cells::cell(registers, cells, 0));
-    image::fill(image, usize::from(registers.shared.ends.here), 1, x);
-    grow(registers, 1);
-    cells::release(registers, cells, 1);
+    cells::need::<Data>(registers, 1)?;
+    ask_space(registers, n)?;
+    let x = cells::cell::<Data>(registers, cells, 0);
+    put(image, registers.shared.ends.here, n, x);
+    grow(registers, n);
+    cells::release::<Data>(registers, cells, 1);
     Ok(())
 }
 
@@ -69,15 +55,15 @@ fn comma_byte(registers: &mut Registers, image: &mut [u8], cells: &mut [u16]) ->
 pub fn appending_word(
     registers: &mut Registers,
     word: AppendingWord,
-    image: &mut [u8],
-    cells: &mut [u16],
+    image: &mut [u8; 65536],
+    cells: &mut [u16; 128],
 ) -> Result<(), Fault>
-    requires { (length image.old ≡ 65536) × (length cells.old ≡ 128) }
     ensures did { OnSpace (appending_number word) registers.old image.old cells.old result registers.new image.new cells.new }
     ensures below { take 256 image.new ≡ take 256 image.old }
 {
+    // One dispatch per step: a match on the word, and no table of functions.
     match word {
-        AppendingWord::Comma => comma(registers, image, cells),
-        AppendingWord::CComma => comma_byte(registers, image, cells),
+        AppendingWord::Comma => append(registers, 2, image, cells),
+        AppendingWord::CComma => append(registers, 1, image, cells),
     }
 }

@@ -1,5 +1,5 @@
 // The words that append to data space.
-#[derive(Clone, Copy)]
+#[derive(Clone, Copy, PartialEq, Eq, Debug)]
 pub enum AppendingWord {
     Comma,
     CComma,

@@ -1,17 +1,16 @@
 // LOAD, and the end of a load.
-ghost use Rattle.std.specs.Prelude.{◌≡◌, ◌<◌, ◌≤◌, true, false, not, ◌&&◌, ◌∷◌, MatchResult};
+ghost use Rattle.std.specs.Prelude.{◌≡◌, ◌<◌, ◌≤◌, true, false, not, ◌&&◌, ◌∷◌};
 ghost use Rattle.definition.specs.View.{loads_of};
-ghost use Rattle.fault.specs.Numbers.{fault_of};
 ghost use Rattle.fault.specs.declared.Reason.TheVariants.{BadLoad};
 ghost use Rattle.loads.specs.Reading.{EndsLoad, from, loadable};
 ghost use Rattle.steps.specs.Does.{OnCells};
-ghost use Rattle.steps.specs.Seats.{told_by};
+ghost use Rattle.steps.specs.Seats.{IsAnswered};
 
 use super::stack::{end_one, open_one};
 use definition::ranged::Registers;
 use definition::registers::Position;
 use fault::{Fault, Reason};
-use steps::cells;
+use steps::cells::{self, Data};
 use steps::faults::ask;
 
 fn is_loadable(blk: u16, count: u16) -> bool
@@ -22,7 +21,7 @@ fn is_loadable(blk: u16, count: u16) -> bool
 
 // Can the block be loaded, and is there a place for its caller?
 fn ask_load(registers: &Registers, blk: u16) -> Result<(), Fault>
-    ensures { MatchResult result (λ _. (loadable blk registers.now.seat.loads.count ≡ true) × (registers.now.seat.loads.count < 8)) (λ e. (loadable blk registers.now.seat.loads.count ≡ false) × (e ≡ fault_of BadLoad (told_by registers.now.seat))) }
+    ensures { IsAnswered result (λ _. (loadable blk registers.now.seat.loads.count ≡ true) × (registers.now.seat.loads.count < 8)) (loadable blk registers.now.seat.loads.count ≡ false) BadLoad registers.now.seat }
 {
     ask(
         registers,
@@ -46,11 +45,11 @@ fn open_block(registers: &mut Registers, blk: u16)
 pub fn load_word(registers: &mut Registers, cells: &[u16; 128]) -> Result<(), Fault>
     ensures { OnCells 58 registers.old cells.now result registers.new cells.now }
 {
-    cells::need(registers, 1)?;
-    let blk = cells::cell(registers, cells, 0);
+    cells::need::<Data>(registers, 1)?;
+    let blk = cells::cell::<Data>(registers, cells, 0);
     ask_load(registers, blk)?;
     open_block(registers, blk);
-    cells::release(registers, cells, 1);
+    cells::release::<Data>(registers, cells, 1);
     Ok(())
 }
 

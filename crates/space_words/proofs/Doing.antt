@@ -1,22 +1,18 @@
 -- How the definition comes to the end of each word on data space, at a machine whose questions are answered.
-use Rattle.std.proofs.Common.{◌≡◌, ℕ, zero, suc, ◌+◌, ◌-◌, ◌%◌, ◌<◌, ◌≤◌, true, false, List, [], ◌∷◌, ◌++◌, length, get_or, take, drop, set, replicate, sym, refl, ap, ◌∙◌, arith, length-set}
+use Rattle.std.proofs.Common.{◌≡◌, ℕ, zero, suc, ◌+◌, ◌-◌, ◌%◌, ◌<◌, ◌≤◌, true, false, cond, eqb, List, [], ◌∷◌, ◌++◌, length, get_or, take, drop, set, replicate, sym, refl, ap, ◌∙◌, arith, length-set}
 use Rattle.image.proofs.Moving.{overwritten_byte}
 use Rattle.fault.specs.declared.Reason.TheVariants.{StackUnderflow, OutOfReach}
 use Rattle.image.specs.Cells.{at, cell, cell_at}
 use Rattle.image.specs.Writes.{overwritten, moved_up}
 use Rattle.numbers.specs.Cells.{wrap}
 use Rattle.definition.specs.Machine.{Machine, with_high}
-use Rattle.definition.specs.Asked.{Asked, refused, After, quietly}
+use Rattle.definition.specs.Asked.{refused, quietly}
 use Rattle.definition.specs.Kernel
 use Rattle.definition.specs.Kernel.{SpaceWord}
-use Rattle.definition.specs.Words.{Argument, perform}
+use Rattle.definition.specs.Words.{perform}
 use Rattle.definition.specs.Stacks.{has_cells, popped, nth, replaced}
 use Rattle.definition.specs.Space.{in_reach, do_space}
-use Rattle.steps.specs.Does.{acts}
-
--- the word of number n acts w
-abbrev pub Acts : ℕ → SpaceWord → Type 0
-Acts n w = (again : ℕ → Machine → Asked After) (a : Argument) (m : Machine) → acts n again a m ≡ do_space w m
+use Rattle.space_words.specs.Acting.{Acts}
 
 pub fetch_acts : Acts 34 (Kernel.fetches 2)
 unfolding perform
@@ -86,20 +82,17 @@ copy_far m h k = rw (h, k)
 pub copy_too_far : (m : Machine) → has_cells 3 m ≡ true → in_reach (nth 2 m) (nth 0 m) m ≡ true → in_reach (nth 1 m) (nth 0 m) m ≡ false → do_space Kernel.move m ≡ refused OutOfReach m
 copy_too_far m h k j = rw (h, k, j)
 
+-- one byte, or else a cell
+abbrev pub value_at : ℕ → List ℕ → ℕ → ℕ
+value_at n bytes a = cond (eqb n 1) (at bytes a) (cell_at bytes a)
+
 -- in reach
-pub fetched : (m : Machine) → has_cells 1 m ≡ true → in_reach (nth 0 m) 2 m ≡ true → do_space (Kernel.fetches 2) m ≡ replaced 1 (cell_at m.high (nth 0 m - 32768) ∷ []) m
-fetched m h k = rw (h, k)
+pub fetched : (n : ℕ) (m : Machine) → has_cells 1 m ≡ true → in_reach (nth 0 m) n m ≡ true → do_space (Kernel.fetches n) m ≡ replaced 1 (value_at n m.high (nth 0 m - 32768) ∷ []) m
+fetched n m h k = rw (h, k)
 
-pub byte_fetched : (m : Machine) → has_cells 1 m ≡ true → in_reach (nth 0 m) 1 m ≡ true → do_space (Kernel.fetches 1) m ≡ replaced 1 (at m.high (nth 0 m - 32768) ∷ []) m
-byte_fetched m h k = rw (h, k)
-
-pub stored : (m : Machine) → has_cells 2 m ≡ true → in_reach (nth 0 m) 2 m ≡ true → do_space (Kernel.stores 2) m ≡ quietly (with_high (overwritten (nth 0 m - 32768) (cell (nth 1 m)) m.high) (popped 2 m))
-unfolding overwritten cell
-stored m h k = rw (h, k)
-
-pub byte_stored : (m : Machine) → has_cells 2 m ≡ true → in_reach (nth 0 m) 1 m ≡ true → do_space (Kernel.stores 1) m ≡ quietly (with_high (overwritten (nth 0 m - 32768) (replicate 1 (nth 1 m % 256)) m.high) (popped 2 m))
-unfolding overwritten cell
-byte_stored m h k = rw (h, k)
+pub stored : (n : ℕ) (m : Machine) → has_cells 2 m ≡ true → in_reach (nth 0 m) n m ≡ true → do_space (Kernel.stores n) m ≡ quietly (with_high (overwritten (nth 0 m - 32768) (take n (cell (nth 1 m))) m.high) (popped 2 m))
+unfolding overwritten
+stored n m h k = rw (h, k)
 
 pub added : (m : Machine) → has_cells 2 m ≡ true → in_reach (nth 0 m) 2 m ≡ true → do_space Kernel.add_to m ≡ quietly (with_high (overwritten (nth 0 m - 32768) (cell (wrap (cell_at m.high (nth 0 m - 32768) + nth 1 m))) m.high) (popped 2 m))
 unfolding overwritten

@@ -92,7 +92,7 @@ moved_views r i i' (suc n) from to l p q e = at (reached from (suc n) r.shared.e
         }
 
 -- the machine behind a change of data cells and data space
-abbrev built : Registers → List ℕ → List Mark → Meaning → List ℕ → List ℕ → List ℕ → List ℕ → Machine
+abbrev pub built : Registers → List ℕ → List Mark → Meaning → List ℕ → List ℕ → List ℕ → List ℕ → Machine
 built r t k s low high line cells = record {
   low = low;
   high = high;

@@ -1,156 +1,156 @@
 // Fetching and storing.
-ghost use Rattle.std.specs.Prelude.{◌≡◌, ◌%◌, length, take};
+ghost use Rattle.std.specs.Prelude.{◌≡◌, ℕ, ◌+◌, ◌<◌, ◌≤◌, if◌then◌else◌, nat_eq, take};
+ghost use Rattle.definition.specs.Kernel.{fetches, stores};
+ghost use Rattle.image.specs.Cells.{at, cell, cell_at};
+ghost use Rattle.image.specs.Writes.{overwritten};
+ghost use Rattle.space_words.specs.Acting.{Acts};
 ghost use Rattle.space_words.specs.Numbers.{memory_number};
 ghost use Rattle.steps.specs.Does.{OnSpace};
 
-use super::reaching::reach;
+use super::reaching::{put, reach};
 use super::words::MemoryWord;
 use definition::ranged::Registers;
 use fault::Fault;
-use steps::cells;
+use steps::cells::{self, Data};
 
-fn low_byte(x: u16) -> u8
-    ensures { result ≡ x % 256 }
+// What is at an address: a byte where n is 1, and else a cell.
+fn fetched(image: &[u8; 65536], address: u16, n: u16) -> u16
+    requires { (0 < n) × (n ≤ 2) × (address + n ≤ 65536) }
+    ensures { result ≡ (if nat_eq n 1 then at image.now address else cell_at image.now address) }
 {
-    (x % 256) as u8
+    let address = usize::from(address);
+    if n == 1 {
+        u16::from(image[address])
+    } else {
+        image::fetch(image, address)
+    }
 }
 
-fn fetch_cell(registers: &mut Registers, image: &[u8], cells: &mut [u16]) -> Result<(), Fault>
-    requires { (length image.now ≡ 65536) × (length cells.old ≡ 128) }
-    ensures { OnSpace 34 registers.old image.now cells.old result registers.new image.now cells.new }
+// @ and C@ fetch n bytes.
+fn fetch(
+    registers: &mut Registers,
+    n: u16,
+    image: &[u8; 65536],
+    cells: &mut [u16; 128],
+) -> Result<(), Fault>
+    requires { (0 < n) × (n ≤ 2) }
+    ensures { (v : ℕ) → Acts v (fetches n) → OnSpace v registers.old image.now cells.old result registers.new image.now cells.new }
 {
-    cells::need(registers, 1)?;
-    let address = cells::cell(registers, cells, 0);
-    reach(registers, address, 2)?;
-    let x = image::fetch(image, usize::from(address));
-    cells::replace(registers, cells, 1, x);
+    cells::need::<Data>(registers, 1)?;
+    let address = cells::cell::<Data>(registers, cells, 0);
+    reach(registers, address, n)?;
+    cells::replace(registers, cells, 1, fetched(image, address, n));
     Ok(())
 }
 
-fn store_cell(registers: &mut Registers, image: &mut [u8], cells: &mut [u16]) -> Result<(), Fault>
-    requires { (length image.old ≡ 65536) × (length cells.old ≡ 128) }
-    ensures did { OnSpace 35 registers.old image.old cells.old result registers.new image.new cells.new }
+// ! and C! store the n low bytes of a cell.
+fn store(
+    registers: &mut Registers,
+    n: u16,
+    image: &mut [u8; 65536],
+    cells: &mut [u16; 128],
+) -> Result<(), Fault>
+    requires { n ≤ 2 }
+    ensures did { (v : ℕ) → Acts v (stores n) → OnSpace v registers.old image.old cells.old result registers.new image.new cells.new }
     ensures below { take 256 image.new ≡ take 256 image.old }
 {
-    cells::need(registers, 2)?;
-    let address = cells::cell(registers, cells, 0);
-    reach(registers, address, 2)?;
-    let x = cells::cell(registers, cells, 1);
-    image::store(image, usize::from(address), x);
-    cells::release(registers, cells, 2);
+    cells::need::<Data>(registers, 2)?;
+    let address = cells::cell::<Data>(registers, cells, 0);
+    reach(registers, address, n)?;
+    let x = cells::cell::<Data>(registers, cells, 1);
+    put(image, address, n, x);
+    cells::release::<Data>(registers, cells, 2);
     Ok(())
 }
 
-fn add_to(registers: &mut Registers, image: &mut [u8], cells: &mut [u16]) -> Result<(), Fault>
-    requires { (length image.old ≡ 65536) × (length cells.old ≡ 128) }
+fn add_to(
+    registers: &mut Registers,
+    image: &mut [u8; 65536],
+    cells: &mut [u16; 128],
+) -> Result<(), Fault>
     ensures did { OnSpace 36 registers.old image.old cells.old result registers.new image.new cells.new }
     ensures below { take 256 image.new ≡ take 256 image.old }
 {
-    cells::need(registers, 2)?;
-    let address = cells::cell(registers, cells, 0);
+    cells::need::<Data>(registers, 2)?;
+    let address = cells::cell::<Data>(registers, cells, 0);
     reach(registers, address, 2)?;
-    let x = cells::cell(registers, cells, 1);
+    let x = cells::cell::<Data>(registers, cells, 1);
     let old = image::fetch(image, usize::from(address));
     image::store(image, usize::from(address), old.wrapping_add(x));
-    cells::release(registers, cells, 2);
+    cells::release::<Data>(registers, cells, 2);
     Ok(())
 }
 
-fn fetch_byte(registers: &mut Registers, image: &[u8], cells: &mut [u16]) -> Result<(), Fault>
-    requires { (length image.now ≡ 65536) × (length cells.old ≡ 128) }
-    ensures { OnSpace 37 registers.old image.now cells.old result registers.new image.now cells.new }
-{
-    cells::need(registers, 1)?;
-    let address = cells::cell(registers, cells, 0);
-    reach(registers, address, 1)?;
-    let x = u16::from(image[usize::from(address)]);
-    cells::replace(registers, cells, 1, x);
-    Ok(())
-}
-
-fn store_byte(registers: &mut Registers, image: &mut [u8], cells: &mut [u16]) -> Result<(), Fault>
-    requires { (length image.old ≡ 65536) × (length cells.old ≡ 128) }
-    ensures did { OnSpace 38 registers.old image.old cells.old result registers.new image.new cells.new }
-    ensures below { take 256 image.new ≡ take 256 image.old }
-{
-    cells::need(registers, 2)?;
-    let address = cells::cell(registers, cells, 0);
-    reach(registers, address, 1)?;
-    let x = low_byte(cells::cell(registers, cells, 1));
-    image::fill(image, usize::from(address), 1, x);
-    cells::release(registers, cells, 2);
-    Ok(())
-}
-
-fn copy(registers: &mut Registers, image: &mut [u8], cells: &mut [u16]) -> Result<(), Fault>
-    requires { (length image.old ≡ 65536) × (length cells.old ≡ 128) }
+fn copy(
+    registers: &mut Registers,
+    image: &mut [u8; 65536],
+    cells: &mut [u16; 128],
+) -> Result<(), Fault>
     ensures did { OnSpace 39 registers.old image.old cells.old result registers.new image.new cells.new }
     ensures below { take 256 image.new ≡ take 256 image.old }
 {
-    cells::need(registers, 3)?;
-    let n = cells::cell(registers, cells, 0);
-    let to = cells::cell(registers, cells, 1);
-    let from = cells::cell(registers, cells, 2);
+    cells::need::<Data>(registers, 3)?;
+    let n = cells::cell::<Data>(registers, cells, 0);
+    let to = cells::cell::<Data>(registers, cells, 1);
+    let from = cells::cell::<Data>(registers, cells, 2);
     reach(registers, from, n)?;
     reach(registers, to, n)?;
     image::move_up(image, usize::from(from), usize::from(to), usize::from(n));
-    cells::release(registers, cells, 3);
+    cells::release::<Data>(registers, cells, 3);
     Ok(())
 }
 
-fn fill(registers: &mut Registers, image: &mut [u8], cells: &mut [u16]) -> Result<(), Fault>
-    requires { (length image.old ≡ 65536) × (length cells.old ≡ 128) }
+fn fill(
+    registers: &mut Registers,
+    image: &mut [u8; 65536],
+    cells: &mut [u16; 128],
+) -> Result<(), Fault>
     ensures did { OnSpace 40 registers.old image.old cells.old result registers.new image.new cells.new }
     ensures below { take 256 image.new ≡ take 256 image.old }
 {
-    cells::need(registers, 3)?;
-    let x = low_byte(cells::cell(registers, cells, 0));
-    let n = cells::cell(registers, cells, 1);
-    let address = cells::cell(registers, cells, 2);
+    cells::need::<Data>(registers, 3)?;
+    let [x, _] = cells::cell::<Data>(registers, cells, 0).to_le_bytes();
+    let n = cells::cell::<Data>(registers, cells, 1);
+    let address = cells::cell::<Data>(registers, cells, 2);
     reach(registers, address, n)?;
     image::fill(image, usize::from(address), usize::from(n), x);
-    cells::release(registers, cells, 3);
+    cells::release::<Data>(registers, cells, 3);
     Ok(())
 }
 
-fn decimal(registers: &mut Registers, image: &mut [u8], cells: &mut [u16]) -> Result<(), Fault>
-    requires { (length image.old ≡ 65536) × (length cells.old ≡ 128) }
-    ensures did { OnSpace 42 registers.old image.old cells.old result registers.new image.new cells.new }
-    ensures below { take 256 image.new ≡ take 256 image.old }
+// DECIMAL and HEX set BASE, the cell at 32,768.
+fn set_base(image: &mut [u8; 65536], base: u16)
+    ensures { image.new ≡ overwritten 32768 (cell base) image.old }
 {
-    image::store(image, 32768, 10);
-    Ok(())
-}
-
-fn hex(registers: &mut Registers, image: &mut [u8], cells: &mut [u16]) -> Result<(), Fault>
-    requires { (length image.old ≡ 65536) × (length cells.old ≡ 128) }
-    ensures did { OnSpace 43 registers.old image.old cells.old result registers.new image.new cells.new }
-    ensures below { take 256 image.new ≡ take 256 image.old }
-{
-    image::store(image, 32768, 16);
-    Ok(())
+    image::store(image, 32768, base);
 }
 
 // @ ! +! C@ C! CMOVE FILL DECIMAL HEX
 pub fn memory_word(
     registers: &mut Registers,
     word: MemoryWord,
-    image: &mut [u8],
-    cells: &mut [u16],
+    image: &mut [u8; 65536],
+    cells: &mut [u16; 128],
 ) -> Result<(), Fault>
-    requires { (length image.old ≡ 65536) × (length cells.old ≡ 128) }
     ensures did { OnSpace (memory_number word) registers.old image.old cells.old result registers.new image.new cells.new }
     ensures below { take 256 image.new ≡ take 256 image.old }
 {
+    // One dispatch per step: a match on the word, and no table of functions.
     match word {
-        MemoryWord::Fetch => fetch_cell(registers, image, cells),
-        MemoryWord::Store => store_cell(registers, image, cells),
+        MemoryWord::Fetch => fetch(registers, 2, image, cells),
+        MemoryWord::Store => store(registers, 2, image, cells),
         MemoryWord::PlusStore => add_to(registers, image, cells),
-        MemoryWord::CFetch => fetch_byte(registers, image, cells),
-        MemoryWord::CStore => store_byte(registers, image, cells),
+        MemoryWord::CFetch => fetch(registers, 1, image, cells),
+        MemoryWord::CStore => store(registers, 1, image, cells),
         MemoryWord::CMove => copy(registers, image, cells),
         MemoryWord::Fill => fill(registers, image, cells),
-        MemoryWord::Decimal => decimal(registers, image, cells),
-        MemoryWord::Hex => hex(registers, image, cells),
+        MemoryWord::Decimal => {
+            set_base(image, 10);
+            Ok(())
+        }
+        MemoryWord::Hex => {
+            set_base(image, 16);
+            Ok(())
+        }
     }
 }

@@ -1,5 +1,5 @@
 // The words that fetch and store in data space.
-#[derive(Clone, Copy)]
+#[derive(Clone, Copy, PartialEq, Eq, Debug)]
 pub enum MemoryWord {
     Fetch,
     Store,

@@ -59,9 +59,9 @@ does_like f g m m' (Ok u) p h = p ∙ h
 does_like f g m m' (Err e) p h = (rw p h.0, h.1)
 
 -- one cell more
-pub leave_full : (r : Registers) (c : List ℕ) (x : ℕ) (e : Fault) → length c ≡ 128 → 128 ≤ r.seat.depths.cells → e ≡ fault_of StackOverflow (told_by r.seat) → (i t : List ℕ) (k : List Mark) (s : Meaning) → Does (replaced 0 (x ∷ [])) (seen r i c t k s) (Err e) (seen r i c t k s)
+pub leave_full : (r : Registers) (c : List ℕ) (x : ℕ) (e : Fault) → length c ≡ 128 → 128 < 1 + r.seat.depths.cells → e ≡ fault_of StackOverflow (told_by r.seat) → (i t : List ℕ) (k : List Mark) (s : Meaning) → Does (replaced 0 (x ∷ [])) (seen r i c t k s) (Err e) (seen r i c t k s)
 leave_full r c x e l h p i t k s = refused_at (replaced 0 (x ∷ [])) (seen r i c t k s) e StackOverflow (rw (lacks_room r i c t k s l 1 0 (omega arith) (omega arith))) p
 
-pub leave_done : (r r' : Registers) (c c' : List ℕ) (x : ℕ) → length c ≡ 128 → r.seat.depths.cells < 128 → r'.shared ≡ r.shared → r'.seat ≡ with_cell_depth (r.seat.depths.cells + 1) r.seat → stack_of (r.seat.depths.cells + 1) c' ≡ x ∷ stack_of r.seat.depths.cells c → (i t : List ℕ) (k : List Mark) (s : Meaning) → Does (replaced 0 (x ∷ [])) (seen r i c t k s) (Ok tt) (seen r' i c' t k s)
+pub leave_done : (r r' : Registers) (c c' : List ℕ) (x : ℕ) → length c ≡ 128 → 1 + r.seat.depths.cells ≤ 128 → r'.shared ≡ r.shared → r'.seat ≡ with_cell_depth (r.seat.depths.cells + 1) r.seat → stack_of (r.seat.depths.cells + 1) c' ≡ x ∷ stack_of r.seat.depths.cells c → (i t : List ℕ) (k : List Mark) (s : Meaning) → Does (replaced 0 (x ∷ [])) (seen r i c t k s) (Ok tt) (seen r' i c' t k s)
 leave_done r r' c c' x l h p q e i t k s =
     rw (has_room_lem r i c t k s l 1 0 (omega arith) (omega arith)) (ap quietly (sym (cells_view r r' i c c' t k s _ _ p q e)))

@@ -1,7 +1,9 @@
--- A seat with one of its registers replaced, and where it says a fault is.
-use Rattle.std.specs.Prelude.{ℕ}
+-- A seat with one of its registers replaced, where it says a fault is, and questions on it.
+use Rattle.std.specs.Prelude.{◌≡◌, ℕ, Ok, Err, Result}
+use Rattle.fault.specs.declared.Fault.{Fault}
+use Rattle.fault.specs.declared.Reason.{Reason}
 use Rattle.fault.specs.declared.Place.{Place}
-use Rattle.fault.specs.Numbers.{place_of}
+use Rattle.fault.specs.Numbers.{fault_of, place_of}
 use Rattle.definition.specs.declared.registers.Seat.{Seat}
 use Rattle.definition.specs.declared.registers.Depths.{Depths}
 
@@ -22,3 +24,8 @@ with_return_depth n t = with_depths (record { cells = t.depths.cells; returns = 
 -- IP is a
 abbrev pub with_pointer : ℕ → Seat → Seat
 with_pointer a t = record { order = t.order; flow = record { compiling = t.flow.compiling; ip = a }; depths = t.depths; source = t.source; loads = t.loads }
+
+-- A question that is answered: p holds of the answer, or q holds and it is refused for this reason, with the seat's place.
+abbrev pub IsAnswered : {A : Type 0} → Result A Fault → (A → Type 0) → Type 0 → Reason → Seat → Type 0
+IsAnswered (Ok a) p q why t = p a
+IsAnswered (Err e) p q why t = q × (e ≡ fault_of why (told_by t))

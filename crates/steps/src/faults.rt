@@ -1,7 +1,7 @@
 // A fault with the place that the registers tell.
-ghost use Rattle.std.specs.Prelude.{◌≡◌, true, false, MatchResult};
+ghost use Rattle.std.specs.Prelude.{◌≡◌, true, false};
 ghost use Rattle.fault.specs.Numbers.{fault_of};
-ghost use Rattle.steps.specs.Seats.{told_by};
+ghost use Rattle.steps.specs.Seats.{IsAnswered, told_by};
 
 use definition::ranged::Registers;
 use fault::{Fault, Place, Reason};
@@ -27,10 +27,11 @@ pub fn refusal(registers: &Registers, reason: Reason) -> Fault
 
 // A question that is answered: a no is refused for this reason.
 pub fn ask(registers: &Registers, answer: bool, reason: Reason) -> Result<(), Fault>
-    ensures { MatchResult result (λ _. answer ≡ true) (λ e. (answer ≡ false) × (e ≡ fault_of reason (told_by registers.now.seat))) }
+    ensures { IsAnswered result (λ _. answer ≡ true) (answer ≡ false) reason registers.now.seat }
 {
     if answer {
-        return Ok(());
+        Ok(())
+    } else {
+        Err(refusal(registers, reason))
     }
-    Err(refusal(registers, reason))
 }

@@ -1,7 +1,9 @@
-// The questions and the moves that the words share.
+// The questions and the moves that the words share. Registers, image and stacks stay apart: a signature shows which of them a word may
+// read or write, and registers hold no lent memory.
 #![tactic(auto)]
 
 pub mod cells;
 pub mod faults;
+pub mod inside;
+pub mod pointer;
 pub mod progress;
-pub mod returns;

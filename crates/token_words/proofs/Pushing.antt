@@ -20,7 +20,9 @@ use Rattle.definition.proofs.Agreeing.{dp_bottom}
 use Rattle.steps.specs.Seats.{told_by, with_cell_depth}
 use Rattle.steps.specs.Does.{seen, acts, Does, OnSpace}
 use Rattle.steps.proofs.Exits.{refused_at, does_like, has_cells_lem, lacks_cells, has_room_lem, cells_view}
-use Rattle.token_words.specs.Numbers.{inside, made_by_create}
+use Rattle.steps.specs.Inside.{inside}
+use Rattle.token_words.specs.declared.tokens.PushingWord.{PushingWord}
+use Rattle.token_words.specs.Numbers.{made_by_create, pushing_code, pushing_place}
 
 -- what is inside, by numbers
 pub inside_tells : (a n dp : ℕ) → inside a n dp ≡ true → (256 ≤ a) × (a + n ≤ dp)
@@ -33,38 +35,26 @@ module _ (r : Registers) (i c : List ℕ) (li : length i ≡ 65536) (lc : length
   inside_is : (t : List ℕ) (k : List Mark) (s : Meaning) (a n : ℕ) (b : Bool) → inside a n r.shared.ends.dp ≡ b → in_dictionary a n (seen r i c t k s) ≡ b
   inside_is t k s a n b p = ap (λ d. leb 256 a && leb (a + n) d) low_long ∙ p
 
-  created_no : (m : Machine) (a : ℕ) → in_dictionary a 4 m ≡ false → other_word 202 a m ≡ refused BadToken m
-  created_no m a h = rw h
+  pushing_no : (w : PushingWord) (m : Machine) (a : ℕ) → in_dictionary a (pushing_place w + 2) m ≡ false → other_word (pushing_code w) a m ≡ refused BadToken m
+  pushing_no PushingWord.Created m a h = rw h
+  pushing_no PushingWord.Constant m a h = rw h
 
-  created_yes : (m : Machine) (a : ℕ) → in_dictionary a 4 m ≡ true → other_word 202 a m ≡ replaced 0 (cell_at m.low (a + 2) ∷ []) m
-  created_yes m a h = rw h
-
-  constant_no : (m : Machine) (a : ℕ) → in_dictionary a 6 m ≡ false → other_word 203 a m ≡ refused BadToken m
-  constant_no m a h = rw h
-
-  constant_yes : (m : Machine) (a : ℕ) → in_dictionary a 6 m ≡ true → other_word 203 a m ≡ replaced 0 (cell_at m.low (a + 4) ∷ []) m
-  constant_yes m a h = rw h
+  pushing_yes : (w : PushingWord) (m : Machine) (a : ℕ) → in_dictionary a (pushing_place w + 2) m ≡ true → other_word (pushing_code w) a m ≡ replaced 0 (cell_at m.low (a + pushing_place w) ∷ []) m
+  pushing_yes PushingWord.Created m a h = rw h
+  pushing_yes PushingWord.Constant m a h = rw h
 
   abbrev Leaves : Registers → List ℕ → ℕ → Result (Unit {0}) Fault → Type 0
   Leaves r' c' x o = (i t : List ℕ) (k : List Mark) (s : Meaning) → Does (replaced 0 (x ∷ [])) (seen r i c t k s) o (seen r' i c' t k s)
 
-  pub created_bad : (a : ℕ) (e : Fault) → inside a 4 r.shared.ends.dp ≡ false → e ≡ fault_of BadToken (told_by r.seat) → (t : List ℕ) (k : List Mark) (s : Meaning) → Does (other_word 202 a) (seen r i c t k s) (Err e) (seen r i c t k s)
-  created_bad a e h p t k s = refused_at (other_word 202 a) (seen r i c t k s) e BadToken (created_no (seen r i c t k s) a (inside_is t k s a 4 false h)) p
+  pub pushing_bad : (w : PushingWord) (a : ℕ) (e : Fault) → inside a (pushing_place w + 2) r.shared.ends.dp ≡ false → e ≡ fault_of BadToken (told_by r.seat) → (t : List ℕ) (k : List Mark) (s : Meaning) → Does (other_word (pushing_code w) a) (seen r i c t k s) (Err e) (seen r i c t k s)
+  pushing_bad w a e h p t k s = refused_at (other_word (pushing_code w) a) (seen r i c t k s) e BadToken (pushing_no w (seen r i c t k s) a (inside_is t k s a (pushing_place w + 2) false h)) p
 
-  pub created_done : (r' : Registers) (c' : List ℕ) (a x : ℕ) (o : Result (Unit {0}) Fault) → inside a 4 r.shared.ends.dp ≡ true → x ≡ cell_at i (a + 2) → Leaves r' c' x o → (t : List ℕ) (k : List Mark) (s : Meaning) → Does (other_word 202 a) (seen r i c t k s) o (seen r' i c' t k s)
-  created_done r' c' a x o h p g t k s =
-      let w = inside_tells a 4 r.shared.ends.dp h in
-      let e : cell_at (low_of r.shared.ends.dp i) (a + 2) ≡ x = cell_low r.shared.ends.dp i (a + 2) (omega (arith, w.0)) (omega (arith, w.1)) ∙ sym p in
-      does_like (other_word 202 a) (replaced 0 (x ∷ [])) (seen r i c t k s) (seen r' i c' t k s) o (created_yes (seen r i c t k s) a (inside_is t k s a 4 true h) ∙ ap (λ y. replaced 0 (y ∷ []) (seen r i c t k s)) e) (g i t k s)
-
-  pub constant_bad : (a : ℕ) (e : Fault) → inside a 6 r.shared.ends.dp ≡ false → e ≡ fault_of BadToken (told_by r.seat) → (t : List ℕ) (k : List Mark) (s : Meaning) → Does (other_word 203 a) (seen r i c t k s) (Err e) (seen r i c t k s)
-  constant_bad a e h p t k s = refused_at (other_word 203 a) (seen r i c t k s) e BadToken (constant_no (seen r i c t k s) a (inside_is t k s a 6 false h)) p
-
-  pub constant_done : (r' : Registers) (c' : List ℕ) (a x : ℕ) (o : Result (Unit {0}) Fault) → inside a 6 r.shared.ends.dp ≡ true → x ≡ cell_at i (a + 4) → Leaves r' c' x o → (t : List ℕ) (k : List Mark) (s : Meaning) → Does (other_word 203 a) (seen r i c t k s) o (seen r' i c' t k s)
-  constant_done r' c' a x o h p g t k s =
-      let w = inside_tells a 6 r.shared.ends.dp h in
-      let e : cell_at (low_of r.shared.ends.dp i) (a + 4) ≡ x = cell_low r.shared.ends.dp i (a + 4) (omega (arith, w.0)) (omega (arith, w.1)) ∙ sym p in
-      does_like (other_word 203 a) (replaced 0 (x ∷ [])) (seen r i c t k s) (seen r' i c' t k s) o (constant_yes (seen r i c t k s) a (inside_is t k s a 6 true h) ∙ ap (λ y. replaced 0 (y ∷ []) (seen r i c t k s)) e) (g i t k s)
+  pub pushing_done : (w : PushingWord) (r' : Registers) (c' : List ℕ) (a x : ℕ) (o : Result (Unit {0}) Fault) → inside a (pushing_place w + 2) r.shared.ends.dp ≡ true → x ≡ cell_at i (a + pushing_place w) → Leaves r' c' x o → (t : List ℕ) (k : List Mark) (s : Meaning) → Does (other_word (pushing_code w) a) (seen r i c t k s) o (seen r' i c' t k s)
+  pushing_done w r' c' a x o h p g t k s =
+      let place = pushing_place w in
+      let b = inside_tells a (place + 2) r.shared.ends.dp h in
+      let e : cell_at (low_of r.shared.ends.dp i) (a + place) ≡ x = cell_low r.shared.ends.dp i (a + place) (omega (arith, b.0)) (omega (arith, b.1)) ∙ sym p in
+      does_like (other_word (pushing_code w) a) (replaced 0 (x ∷ [])) (seen r i c t k s) (seen r' i c' t k s) o (pushing_yes w (seen r i c t k s) a (inside_is t k s a (place + 2) true h) ∙ ap (λ y. replaced 0 (y ∷ []) (seen r i c t k s)) e) (g i t k s)
 
   -- >BODY
   abbrev token : ℕ

@@ -25,7 +25,8 @@ use Rattle.steps.specs.Does.{seen, acts}
 use Rattle.steps.proofs.Exits.{has_cells_lem, lacks_cells}
 use Rattle.space_words.specs.Numbers.{reachable}
 use Rattle.space_words.proofs.Written.{reach_is}
-use Rattle.typing_words.specs.Numbers.{counted, inside, number_text, number_word}
+use Rattle.steps.specs.Inside.{inside}
+use Rattle.typing_words.specs.Numbers.{counted, number_text, number_word}
 use Rattle.typing_words.proofs.Parts.{high_part, low_part}
 use Rattle.typing_words.proofs.Ends.{Comes}
 

@@ -1,5 +1,5 @@
 -- The number of each word in the kernel table, and what the words that type read.
-use Rattle.std.specs.Prelude.{ℕ, ◌+◌, Bool, ◌&&◌, List, nat_le, if◌then◌else◌}
+use Rattle.std.specs.Prelude.{ℕ, Bool, List, if◌then◌else◌}
 use Rattle.numbers.specs.Cells.{is_negative}
 use Rattle.numbers.specs.Text.{signed_text, unsigned_text}
 use Rattle.typing_words.specs.declared.words.TypingWord.{TypingWord}
@@ -16,10 +16,6 @@ typing_number TypingWord.Text = 105
 -- how many bytes a signed count asks for
 abbrev pub counted : ℕ → ℕ
 counted n = if is_negative n then 0 else n
-
--- n bytes at a, with this DP
-abbrev pub inside : ℕ → ℕ → ℕ → Bool
-inside a n dp = nat_le 256 a && nat_le (a + n) dp
 
 -- the word that types a signed number or an unsigned one, and what it types before the blank
 abbrev pub number_word : Bool → ℕ

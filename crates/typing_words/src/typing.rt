@@ -1,12 +1,12 @@
 // Typing numbers, bytes and blanks.
-ghost use Rattle.std.specs.Prelude.{◌≡◌, ◌+◌, ◌%◌, ◌≤◌, true, false, [], ◌∷◌, ◌++◌, replicate, take, MatchResult, slice_index};
-ghost use Rattle.fault.specs.Numbers.{fault_of};
+ghost use Rattle.std.specs.Prelude.{◌≡◌, ◌+◌, ◌%◌, ◌≤◌, true, false, [], ◌∷◌, ◌++◌, replicate, take, slice_index};
 ghost use Rattle.fault.specs.declared.Reason.TheVariants.{BadBase, BadToken};
 ghost use Rattle.image.specs.Cells.{cell_at};
 ghost use Rattle.numbers.specs.Text.{is_base};
 ghost use Rattle.steps.specs.Does.{OnOutput};
-ghost use Rattle.steps.specs.Seats.{told_by, with_pointer};
-ghost use Rattle.typing_words.specs.Numbers.{counted, inside, number_text, number_word, typing_number};
+ghost use Rattle.steps.specs.Inside.{inside};
+ghost use Rattle.steps.specs.Seats.{IsAnswered, with_pointer};
+ghost use Rattle.typing_words.specs.Numbers.{counted, number_text, number_word, typing_number};
 ghost use Rattle.typing_words.specs.Output.{Releases};
 
 use super::output::Output;
@@ -14,8 +14,9 @@ use super::words::TypingWord;
 use definition::ranged::Registers;
 use fault::{Fault, Reason};
 use space_words::reaching::reach;
-use steps::cells;
-use steps::faults::refusal;
+use steps::cells::{self, Data};
+use steps::faults::ask;
+use steps::inside::ask_inside;
 use steps::progress::Progress;
 
 // Lets n cells go if what the word types fitted.
@@ -26,19 +27,17 @@ fn finish(registers: &mut Registers, cells: &[u16; 128], n: usize, fitted: bool)
     if !fitted {
         return Progress::Full;
     }
-    cells::release(registers, cells, n);
+    cells::release::<Data>(registers, cells, n);
     Progress::Went
 }
 
 // BASE, if there are digits in it.
 fn base_of(registers: &Registers, image: &[u8; 65536]) -> Result<u16, Fault>
-    ensures { MatchResult result (λ b. (b ≡ cell_at image.now 32768) × (is_base b ≡ true) × (2 ≤ b) × (b ≤ 36)) (λ e. (is_base (cell_at image.now 32768) ≡ false) × (e ≡ fault_of BadBase (told_by registers.now.seat))) }
+    ensures { IsAnswered result (λ b. (b ≡ cell_at image.now 32768) × (is_base b ≡ true) × (2 ≤ b) × (b ≤ 36)) (is_base (cell_at image.now 32768) ≡ false) BadBase registers.now.seat }
 {
     let base = image::fetch(image, 32768);
-    if numbers::is_base(base) {
-        return Ok(base);
-    }
-    Err(refusal(registers, Reason::BadBase))
+    ask(registers, numbers::is_base(base), Reason::BadBase)?;
+    Ok(base)
 }
 
 // Writes a cell in a base, signed or unsigned, and the blank behind it to the front of blanks; how many bytes they are.
@@ -68,9 +67,9 @@ fn number(
 ) -> Result<Progress, Fault>
     ensures { OnOutput (number_word signed) registers.old image.now cells.now output.old.bytes.now output.old.typed result registers.new output.new.bytes.now output.new.typed }
 {
-    cells::need(registers, 1)?;
+    cells::need::<Data>(registers, 1)?;
     let base = base_of(registers, image)?;
-    let x = cells::cell(registers, cells, 0);
+    let x = cells::cell::<Data>(registers, cells, 0);
     let mut text = [b' '; 18];
     let length = write_number(base, x, signed, &mut text);
     let fitted = output.type_bytes(&text[..length]);
@@ -91,8 +90,8 @@ fn emit(
 ) -> Result<Progress, Fault>
     ensures { OnOutput 51 registers.old image.now cells.now output.old.bytes.now output.old.typed result registers.new output.new.bytes.now output.new.typed }
 {
-    cells::need(registers, 1)?;
-    let byte = low_seven_bits(cells::cell(registers, cells, 0));
+    cells::need::<Data>(registers, 1)?;
+    let byte = low_seven_bits(cells::cell::<Data>(registers, cells, 0));
     let fitted = output.type_bytes(&[byte]);
     Ok(finish(registers, cells, 1, fitted))
 }
@@ -112,9 +111,9 @@ fn type_space(
 ) -> Result<Progress, Fault>
     ensures { OnOutput 52 registers.old image.now cells.now output.old.bytes.now output.old.typed result registers.new output.new.bytes.now output.new.typed }
 {
-    cells::need(registers, 2)?;
-    let n = count_of(cells::cell(registers, cells, 0));
-    let address = cells::cell(registers, cells, 1);
+    cells::need::<Data>(registers, 2)?;
+    let n = count_of(cells::cell::<Data>(registers, cells, 0));
+    let address = cells::cell::<Data>(registers, cells, 1);
     reach(registers, address, n)?;
     let from = usize::from(address);
     let end = from + usize::from(n);
@@ -142,28 +141,20 @@ fn spaces(
 ) -> Result<Progress, Fault>
     ensures { OnOutput 54 registers.old image.now cells.now output.old.bytes.now output.old.typed result registers.new output.new.bytes.now output.new.typed }
 {
-    cells::need(registers, 1)?;
-    let n = count_of(cells::cell(registers, cells, 0));
+    cells::need::<Data>(registers, 1)?;
+    let n = count_of(cells::cell::<Data>(registers, cells, 0));
     let fitted = output.type_blanks(usize::from(n));
     Ok(finish(registers, cells, 1, fitted))
 }
 
-fn is_inside(address: u16, n: u16, dp: u16) -> bool
-    ensures { result ≡ inside address n dp }
-{
-    address >= 256 && usize::from(address) + usize::from(n) <= usize::from(dp)
-}
-
 // The count byte at IP, if it and so many bytes behind it lie in the dictionary.
 fn text_length(registers: &Registers, image: &[u8; 65536]) -> Result<u8, Fault>
-    ensures { MatchResult result (λ n. (n ≡ slice_index image.now registers.now.seat.flow.ip) × (inside registers.now.seat.flow.ip (n + 1) registers.now.shared.ends.dp ≡ true) × (registers.now.seat.flow.ip + n + 1 ≤ 32768)) (λ e. (inside registers.now.seat.flow.ip (slice_index image.now registers.now.seat.flow.ip + 1) registers.now.shared.ends.dp ≡ false) × (e ≡ fault_of BadToken (told_by registers.now.seat))) }
+    ensures { IsAnswered result (λ n. (n ≡ slice_index image.now registers.now.seat.flow.ip) × (inside registers.now.seat.flow.ip (n + 1) registers.now.shared.ends.dp ≡ true) × (registers.now.seat.flow.ip + n + 1 ≤ 32768)) (inside registers.now.seat.flow.ip (slice_index image.now registers.now.seat.flow.ip + 1) registers.now.shared.ends.dp ≡ false) BadToken registers.now.seat }
 {
     let ip = registers.seat.flow.ip;
     let n = image[usize::from(ip)];
-    if is_inside(ip, u16::from(n) + 1, registers.shared.ends.dp) {
-        return Ok(n);
-    }
-    Err(refusal(registers, Reason::BadToken))
+    ask_inside(registers, ip, u16::from(n) + 1)?;
+    Ok(n)
 }
 
 // IP goes behind a text of n bytes and its count byte.

@@ -6,19 +6,19 @@ pub returns-in_err-need : goal.returns-in_err-need
 returns-in_err-need c =
     let p = err_from_is_err_and c.from_residual.result c.from_residual.ensures.1 in
     let h = c.in_err-need.ensures in
-    rw (p.1, p.2) (plus_short c.args.registers.now c.args.image.now c.args.cells.now c.args.returns.now c.requires.0 c.requires.1.0 c.requires.1.1 _ h.0 h.1)
+    rw (p.1, p.2) (plus_short c.args.registers.now c.args.image.now c.args.cells.now c.args.returns.now c.told-image c.told-cells c.told-returns _ h.0 h.1)
 
-pub returns-in_err-need_returns : goal.returns-in_err-need_returns
-returns-in_err-need_returns c =
-    let p = err_from_is_err_and c.from_residual-in_err-need_returns.result c.from_residual-in_err-need_returns.ensures.1 in
-    let h = c.in_err-need_returns.ensures in
-    rw (p.1, p.2) (plus_few c.args.registers.now c.args.image.now c.args.cells.now c.args.returns.now c.requires.0 c.requires.1.0 c.requires.1.1 _ c.in_ok-need.ensures h.0 h.1)
+pub returns-in_err-need-2 : goal.returns-in_err-need-2
+returns-in_err-need-2 c =
+    let p = err_from_is_err_and c.from_residual-in_err-need-2.result c.from_residual-in_err-need-2.ensures.1 in
+    let h = c.in_err-need-2.ensures in
+    rw (p.1, p.2) (plus_few c.args.registers.now c.args.image.now c.args.cells.now c.args.returns.now c.told-image c.told-cells c.told-returns _ c.in_ok-need.ensures h.0 h.1)
 
 pub returns-in_err-start : goal.returns-in_err-start
 returns-in_err-start c =
     let p = err_from_is_err_and c.from_residual-in_err-start.result c.from_residual-in_err-start.ensures.1 in
     let h = c.in_err-start.ensures in
-    rw (p.1, p.2) (plus_bad c.args.registers.now c.args.image.now c.args.cells.now c.args.returns.now c.requires.0 c.requires.1.0 c.requires.1.1 _ c.in_ok-need.ensures c.in_ok-need_returns.ensures h.0 h.1)
+    rw (p.1, p.2) (plus_bad c.args.registers.now c.args.image.now c.args.cells.now c.args.returns.now c.told-image c.told-cells c.told-returns _ c.in_ok-need.ensures c.in_ok-need-2.ensures h.0 h.1)
 
 pub returns : goal.returns
-returns c = plus_done c.args.registers.now c.args.image.now c.args.cells.now c.args.returns.now c.requires.0 c.requires.1.0 c.requires.1.1 c.release.new.registers c.turn.new.registers c.turn.new.returns _ c.cell-n.result c.in_ok-need.ensures c.in_ok-need_returns.ensures c.in_ok-start.ensures.0 c.in_ok-start.ensures.1 c.cell-n.ensures (record { shared = c.release.ensures.shared; seat = c.release.ensures.seat; stack = c.release.ensures.stack }) c.turn.ensures
+returns c = plus_done c.args.registers.now c.args.image.now c.args.cells.now c.args.returns.now c.told-image c.told-cells c.told-returns c.release.new.registers c.turn.new.registers c.turn.new.returns _ c.cell-n.result c.in_ok-need.ensures c.in_ok-need-2.ensures c.in_ok-start.ensures.0 c.in_ok-start.ensures.1 c.cell-n.ensures (record { shared = c.release.ensures.shared; seat = c.release.ensures.seat; stack = c.release.ensures.stack }) c.turn.ensures

@@ -7,20 +7,20 @@ pub returns-in_err-need : goal.returns-in_err-need
 returns-in_err-need c =
     let p = err_from_is_err_and c.from_residual.result c.from_residual.ensures.1 in
     let h = c.in_err-need.ensures in
-    rw (p.1, p.2) (if_short c.args.registers.now c.args.image.now c.args.cells.now c.args.returns.now c.requires.0 c.requires.1.0 c.requires.1.1 _ h.0 h.1)
+    rw (p.1, p.2) (if_short c.args.registers.now c.args.image.now c.args.cells.now c.args.returns.now c.told-image c.told-cells c.told-returns _ h.0 h.1)
 
 pub returns-in_err-address : goal.returns-in_err-address
 returns-in_err-address c =
     let p = err_from_is_err_and c.from_residual-in_err-address.result c.from_residual-in_err-address.ensures.1 in
     let h = c.in_err-address.ensures in
-    rw (p.1, p.2) (if_bad c.args.registers.now c.args.image.now c.args.cells.now c.args.returns.now c.requires.0 c.requires.1.0 c.requires.1.1 _ c.in_ok-need.ensures h.0 h.1)
+    rw (p.1, p.2) (if_bad c.args.registers.now c.args.image.now c.args.cells.now c.args.returns.now c.told-image c.told-cells c.told-returns _ c.in_ok-need.ensures h.0 h.1)
 
 pub returns-then-x-eq0 : goal.returns-then-x-eq0
 returns-then-x-eq0 c =
-    if_goes c.args.registers.now c.args.image.now c.args.cells.now c.args.returns.now c.requires.0 c.requires.1.0 c.requires.1.1 c.release.new.registers c.go_to.new.registers _ c.cell-x.result c.in_ok-need.ensures c.in_ok-address.ensures.0 c.in_ok-address.ensures.1 c.cell-x.ensures (omega arith)
+    if_goes c.args.registers.now c.args.image.now c.args.cells.now c.args.returns.now c.told-image c.told-cells c.told-returns c.release.new.registers c.go_to.new.registers _ c.cell-x.result c.in_ok-need.ensures c.in_ok-address.ensures.0 c.in_ok-address.ensures.1 c.cell-x.ensures (omega arith)
     (record { shared = c.release.ensures.shared; seat = c.release.ensures.seat; stack = c.release.ensures.stack }) (record { shared = c.go_to.ensures.shared; seat = c.go_to.ensures.seat })
 
 pub returns : goal.returns
 returns c =
-    if_stays c.args.registers.now c.args.image.now c.args.cells.now c.args.returns.now c.requires.0 c.requires.1.0 c.requires.1.1 c.release.new.registers c.skip.new.registers c.cell-x.result c.in_ok-need.ensures c.in_ok-address.ensures.0 c.cell-x.ensures (λ e. omega (arith, e))
+    if_stays c.args.registers.now c.args.image.now c.args.cells.now c.args.returns.now c.told-image c.told-cells c.told-returns c.release.new.registers c.skip.new.registers c.cell-x.result c.in_ok-need.ensures c.in_ok-address.ensures.0 c.cell-x.ensures (λ e. omega (arith, e))
     (record { shared = c.release.ensures.shared; seat = c.release.ensures.seat; stack = c.release.ensures.stack }) (record { shared = c.skip.ensures.shared; seat = c.skip.ensures.seat })

@@ -6,15 +6,15 @@ pub returns-in_err-room : goal.returns-in_err-room
 returns-in_err-room c =
     let p = err_from_is_err_and c.from_residual.result c.from_residual.ensures.1 in
     let h = c.in_err-room.ensures in
-    rw (p.1, p.2) (r_from_over c.args.registers.now c.args.cells.now c.args.returns.now c.requires.0 c.requires.1 _ h.0 h.1)
+    rw (p.1, p.2) (r_from_over c.args.registers.now c.args.cells.now c.args.returns.now c.told-cells c.told-returns _ h.0 h.1)
 
-pub returns-in_err-need_returns : goal.returns-in_err-need_returns
-returns-in_err-need_returns c =
-    let p = err_from_is_err_and c.from_residual-in_err-need_returns.result c.from_residual-in_err-need_returns.ensures.1 in
-    let h = c.in_err-need_returns.ensures in
-    rw (p.1, p.2) (r_from_short c.args.registers.now c.args.cells.now c.args.returns.now c.requires.0 c.requires.1 _ c.in_ok-room.ensures h.0 h.1)
+pub returns-in_err-need : goal.returns-in_err-need
+returns-in_err-need c =
+    let p = err_from_is_err_and c.from_residual-in_err-need.result c.from_residual-in_err-need.ensures.1 in
+    let h = c.in_err-need.ensures in
+    rw (p.1, p.2) (r_from_short c.args.registers.now c.args.cells.now c.args.returns.now c.told-cells c.told-returns _ c.in_ok-room.ensures h.0 h.1)
 
 pub returns : goal.returns
 returns c =
-    r_from_done c.args.registers.now c.args.cells.now c.args.returns.now c.requires.0 c.requires.1 c.release_returns.new.registers c.push.new.registers c.push.new.cells c.return_cell-x.result c.in_ok-room.ensures c.in_ok-need_returns.ensures c.return_cell-x.ensures
-    (record { shared = c.release_returns.ensures.shared; seat = c.release_returns.ensures.seat; stack = c.release_returns.ensures.stack }) (record { shared = c.push.ensures.shared; seat = c.push.ensures.seat; stack = c.push.ensures.stack })
+    r_from_done c.args.registers.now c.args.cells.now c.args.returns.now c.told-cells c.told-returns c.release.new.registers c.push.new.registers c.push.new.cells c.cell-x.result c.in_ok-room.ensures c.in_ok-need.ensures c.cell-x.ensures
+    (record { shared = c.release.ensures.shared; seat = c.release.ensures.seat; stack = c.release.ensures.stack }) (record { shared = c.push.ensures.shared; seat = c.push.ensures.seat; stack = c.push.ensures.stack })

@@ -1,3 +1,8 @@
+use Rattle.std.proofs.Common.{◌≡◌, inl, inr}
+use Rattle.definition.specs.Kernel
+use Rattle.flow_words.specs.declared.words.ReturnsWord.{ReturnsWord}
+use Rattle.flow_words.specs.Numbers.{returns_number, copied_place}
+use Rattle.flow_words.proofs.Doing.{Acts, copied, r_fetch_acts, index_acts, outer_index_acts}
 use Rattle.flow_words.proofs.returning.returns_word.Goals as goal
 
 pub returns-in-Exit : goal.returns-in-Exit
@@ -10,13 +15,14 @@ pub returns-in-RFrom : goal.returns-in-RFrom
 returns-in-RFrom c = rw c.in-RFrom.is c.r_from.ensures
 
 pub returns-in-RFetch : goal.returns-in-RFetch
-returns-in-RFetch c = rw c.in-RFetch.is c.r_fetch.ensures
-
-pub returns-in-Index : goal.returns-in-Index
-returns-in-Index c = rw c.in-Index.is c.index.ensures
-
-pub returns-in-OuterIndex : goal.returns-in-OuterIndex
-returns-in-OuterIndex c = rw c.in-OuterIndex.is c.outer_index.ensures
+returns-in-RFetch c =
+    let by = λ (w : ReturnsWord) (p : c.args.word ≡ w) (q : Acts (returns_number w) (Kernel.copy_at (copied_place w))).
+    copied c.args.registers.now c.args.cells.now c.args.returns.now c.told-cells c.told-returns c.args.word w p q _ c.copied_place.ensures c.copy_at.result c.copy_at.new.registers c.copy_at.new.cells c.copy_at.ensures in
+    elim c.in-RFetch.is [
+      | inl p ↦ by ReturnsWord.RFetch p r_fetch_acts
+      | inr (inl p) ↦ by ReturnsWord.Index p index_acts
+      | inr (inr p) ↦ by ReturnsWord.OuterIndex p outer_index_acts
+    ]
 
 pub returns-in-Leave : goal.returns-in-Leave
 returns-in-Leave c = rw c.in-Leave.is c.leave.ensures

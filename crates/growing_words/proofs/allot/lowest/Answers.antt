@@ -10,4 +10,4 @@ returns-clause-value c =
     let low = low_of c.args.registers.now.shared.ends.dp c.args.image.now in
     let newest = c.args.registers.now.shared.names.newest in
     let first = ap (λ y. newest + 5 + y) (c.from.ensures ∙ ap (λ y. y % 32) c.byte_or_zero-length.ensures) in
-    c.at_least_bottom.ensures.value ∙ ap (max 34048) (c.cell_or_zero.ensures ∙ ap (cell_at low) first)
+    c.max.ensures ∙ ap (max 34048) (c.cell_or_zero.ensures ∙ ap (cell_at low) first)

@@ -6,4 +6,4 @@ use Rattle.definition.proofs.ranged.Registers.clear.Goals as goal
 pub returns : goal.returns
 returns c =
     let r = c.args.self.now in
-    record { view = cleared_view r.shared r.seat c.end_without.result c.at_rest-seat.result c.end_without.ensures c.at_rest-seat.ensures r.bottom (settled_in r.shared r.open); step = fault_keeps; run = fault_in_run }
+    record { view = cleared_view r.shared r.seat c.kept_end-self.result c.at_rest-self.result c.kept_end-self.ensures c.at_rest-self.ensures r.bottom (settled_in r.shared r.open); step = fault_keeps; run = fault_in_run }
