@@ -50,6 +50,7 @@ impl Dictionary {
         ensures dp { self.new.ends.dp ≡ self.old.ends.dp + length name.now }
         ensures rest { Outside image.old image.new }
     {
+        // By the index, which tells the last byte: it is held with 128 added.
         for i in 0..name.len() {
             self.put(image, &[held_byte(name, i)]);
         }

@@ -113,6 +113,7 @@ impl<'a> Entries<'a> {
             return false;
         }
         let start = usize::from(entry) + 3;
+        // By the index, which counts both sides: `all` leaves open that each of its bytes lies in the image.
         for i in 0..name.len() {
             if self.image[start + i] != held_byte(name, i) {
                 return false;

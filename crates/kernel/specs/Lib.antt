@@ -1,3 +1,3 @@
 pub mod Table
 pub mod Boot
-pub mod Bytes
+pub mod Rows

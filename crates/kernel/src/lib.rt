@@ -7,25 +7,124 @@ ghost use Rattle.dictionary.specs.Lent.{Outside, dict_of};
 ghost use Rattle.entries.specs.Entries.{spelled};
 ghost use Rattle.entries.specs.Threads.{Ascii};
 ghost use Rattle.kernel.specs.Boot.{boot_dict, forth_alone, with_kernel};
-ghost use Rattle.kernel.specs.Bytes.{is_table, rows_in};
+ghost use Rattle.kernel.specs.Rows.{are_rows, rows_of};
 
 use dictionary::registers::{DATA_SPACE, Dictionary, Ends, Names, SearchOrder};
 use dictionary::{FORTH, Header};
+use entries::IMMEDIATE;
 use fault::Place;
 
 // FORTH's entry, from 256 on.
 const FORTH_ENTRY: &[u8; 24] = b"\0\0\0\0\x85FORT\xc8\xcc\0\0\x85\0\0\0\0\x02\x01\0\0\0\0";
 
-// The kernel words in their order: the length of the name, 64 more for an immediate word, then the name.
-const KERNEL: &[u8; 498] = b"\
-    \x03DUP\x04DROP\x04SWAP\x04OVER\x03ROT\x04?DUP\x05DEPTH\x04PICK\x04ROLL\x01+\x01-\x01*\x01/\x03MOD\x04/MOD\
-    \x02*/\x021+\x021-\x022/\x06NEGATE\x03ABS\x03MIN\x03MAX\x03AND\x02OR\x03XOR\x03NOT\x01=\x01<\x01>\x020=\
-    \x020<\x02U<\x01@\x01!\x02+!\x02C@\x02C!\x05CMOVE\x04FILL\x04BASE\x07DECIMAL\x03HEX\x03PAD\x04HERE\
-    \x05ALLOT\x01,\x02C,\x01.\x02U.\x04EMIT\x04TYPE\x02CR\x06SPACES\x05BLOCK\x06UPDATE\x05FLUSH\x04LOAD\
-    \x07EXECUTE\x01'\x05>BODY\x41(\x05ABORT\x01:\x41;\x06CREATE\x08VARIABLE\x08CONSTANT\x0aVOCABULARY\
-    \x0bDEFINITIONS\x09IMMEDIATE\x06FORGET\x41[\x01]\x47LITERAL\x43[']\x49[COMPILE]\x07COMPILE\x45DOES>\x42IF\
-    \x44ELSE\x44THEN\x45BEGIN\x45WHILE\x46REPEAT\x45UNTIL\x42DO\x44LOOP\x45+LOOP\x42.\"\x04EXIT\x02>R\x02R>\
-    \x02R@\x01I\x01J\x05LEAVE\x05(LIT)\x06BRANCH\x07?BRANCH\x04(DO)\x06(LOOP)\x07(+LOOP)\x07(;CODE)\x04(.\")";
+// The kernel words in their order: the name, and whether the word is immediate.
+const KERNEL: [(&[u8], bool); 105] = [
+    (b"DUP", false),
+    (b"DROP", false),
+    (b"SWAP", false),
+    (b"OVER", false),
+    (b"ROT", false),
+    (b"?DUP", false),
+    (b"DEPTH", false),
+    (b"PICK", false),
+    (b"ROLL", false),
+    (b"+", false),
+    (b"-", false),
+    (b"*", false),
+    (b"/", false),
+    (b"MOD", false),
+    (b"/MOD", false),
+    (b"*/", false),
+    (b"1+", false),
+    (b"1-", false),
+    (b"2/", false),
+    (b"NEGATE", false),
+    (b"ABS", false),
+    (b"MIN", false),
+    (b"MAX", false),
+    (b"AND", false),
+    (b"OR", false),
+    (b"XOR", false),
+    (b"NOT", false),
+    (b"=", false),
+    (b"<", false),
+    (b">", false),
+    (b"0=", false),
+    (b"0<", false),
+    (b"U<", false),
+    (b"@", false),
+    (b"!", false),
+    (b"+!", false),
+    (b"C@", false),
+    (b"C!", false),
+    (b"CMOVE", false),
+    (b"FILL", false),
+    (b"BASE", false),
+    (b"DECIMAL", false),
+    (b"HEX", false),
+    (b"PAD", false),
+    (b"HERE", false),
+    (b"ALLOT", false),
+    (b",", false),
+    (b"C,", false),
+    (b".", false),
+    (b"U.", false),
+    (b"EMIT", false),
+    (b"TYPE", false),
+    (b"CR", false),
+    (b"SPACES", false),
+    (b"BLOCK", false),
+    (b"UPDATE", false),
+    (b"FLUSH", false),
+    (b"LOAD", false),
+    (b"EXECUTE", false),
+    (b"'", false),
+    (b">BODY", false),
+    (b"(", true),
+    (b"ABORT", false),
+    (b":", false),
+    (b";", true),
+    (b"CREATE", false),
+    (b"VARIABLE", false),
+    (b"CONSTANT", false),
+    (b"VOCABULARY", false),
+    (b"DEFINITIONS", false),
+    (b"IMMEDIATE", false),
+    (b"FORGET", false),
+    (b"[", true),
+    (b"]", false),
+    (b"LITERAL", true),
+    (b"[']", true),
+    (b"[COMPILE]", true),
+    (b"COMPILE", false),
+    (b"DOES>", true),
+    (b"IF", true),
+    (b"ELSE", true),
+    (b"THEN", true),
+    (b"BEGIN", true),
+    (b"WHILE", true),
+    (b"REPEAT", true),
+    (b"UNTIL", true),
+    (b"DO", true),
+    (b"LOOP", true),
+    (b"+LOOP", true),
+    (b".\"", true),
+    (b"EXIT", false),
+    (b">R", false),
+    (b"R>", false),
+    (b"R@", false),
+    (b"I", false),
+    (b"J", false),
+    (b"LEAVE", false),
+    (b"(LIT)", false),
+    (b"BRANCH", false),
+    (b"?BRANCH", false),
+    (b"(DO)", false),
+    (b"(LOOP)", false),
+    (b"(+LOOP)", false),
+    (b"(;CODE)", false),
+    (b"(.\")", false),
+];
 
 // The dictionary that boot leaves, written into the image.
 pub fn boot(image: &mut [u8; 65536]) -> Dictionary
@@ -33,7 +132,7 @@ pub fn boot(image: &mut [u8; 65536]) -> Dictionary
     ensures rest { Outside image.old image.new }
 {
     let mut d = forth_alone(image);
-    kernel_words(&mut d, image, KERNEL);
+    kernel_words(&mut d, image, &KERNEL);
     d
 }
 
@@ -62,23 +161,21 @@ fn forth_alone(image: &mut [u8; 65536]) -> Dictionary
 }
 
 // Defines the words of a table, numbered from 1.
-fn kernel_words(d: &mut Dictionary, image: &mut [u8; 65536], table: &[u8])
-    requires { (d.old.ends.dp + 10 * length table.now ≤ 32768) × (is_table (length table.now) table.now ≡ true) }
-    ensures made { dict_of d.new image.new ≡ with_kernel 1 (rows_in (length table.now) table.now) (dict_of d.old image.old) }
+fn kernel_words(d: &mut Dictionary, image: &mut [u8; 65536], table: &[(&[u8], bool)])
+    requires space { d.old.ends.dp + 40 * length table.now ≤ 32768 }
+    requires rows { are_rows table.now ≡ true }
+    ensures made { dict_of d.new image.new ≡ with_kernel 1 (rows_of table.now) (dict_of d.old image.old) }
     ensures rest { Outside image.old image.new }
 {
-    let mut rest = table;
     let mut number = 1;
-    'words: while let [count, names @ ..] = rest {
-        let (name, others) = names.split_at(usize::from(*count % 32));
+    for (name, immediate) in table {
         let header = Header {
             view: 0,
-            flags: *count - *count % 32,
-            name,
+            flags: if *immediate { IMMEDIATE } else { 0 },
+            name: *name,
             code: number,
         };
         kernel_word(d, image, &header);
-        rest = others;
         number += 1;
     }
 }

@@ -41,7 +41,7 @@ pub fn is_on_chain(
     let mut before = d.ends.dp;
     let mut link = d.names.voclink;
     'chain: while let Some(k) = next_vocabulary(d.ends.dp, before, link, told)? {
-        found = found | (vocabulary == k - 8);
+        found |= vocabulary == k - 8;
         before = k;
         link = entries.cell(k);
     }

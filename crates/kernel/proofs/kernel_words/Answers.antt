@@ -1,55 +1,39 @@
-use Rattle.std.proofs.Common.{◌≡◌, ℕ, ◌-◌, ◌%◌, ◌<◌, ◌≤◌, List, length, get_or, take, drop, sym, ap, ◌∙◌, subst, arith}
-use Rattle.std.proofs.lemmas.List.{length-drop, take_all}
+use Rattle.std.proofs.Common.{◌≡◌, ◌≤◌, cond, get_or, refl, sym, ap, ◌∙◌, subst, arith}
 use Rattle.dictionary.proofs.Growing.{outside_none, outside_then}
-use Rattle.kernel.proofs.Loads.{loading_start, loading_first, loading_more, loading_end}
+use Rattle.kernel.proofs.Loads.{no_row, loading_start, loading_word, loading_more, loading_end}
 use Rattle.kernel.proofs.kernel_words.Goals as goal
+use Rattle.kernel.proofs.kernel_words.Goals.{then-immediate, else-immediate}
 
--- the bytes behind the first
-all_behind : (xs : List ℕ) → take (length xs - 1) (drop 1 xs) ≡ drop 1 xs
-all_behind xs = let l = length-drop 1 xs in take_all (length xs - 1) (drop 1 xs) (omega arith)
-
-pub words-init : goal.words-init
-words-init c = (loading_start _ _ _ c.requires.1, outside_none _)
-
-pub split_at-requires : goal.split_at-requires
-split_at-requires c =
-    let rest = c.words.rest.now in
-    let f = loading_first rest _ _ _ _ _ _ c.words.invariant.0 c.in-len1-up.len_at_least in
-    let l = ap length (all_behind rest) in
-    let h : c.from.result ≤ length (take (length rest - 1) (drop 1 rest)) = omega (arith, f.whole, c.from.ensures) in
-    h
-
-pub kernel_word-requires : goal.kernel_word-requires
-kernel_word-requires c =
-    let rest = c.words.rest.now in
-    let f = loading_first rest _ _ _ _ _ _ c.words.invariant.0 c.in-len1-up.len_at_least in
-    let l = length-drop 1 rest in
-    omega (arith, f.whole, c.from.ensures, c.split_at.ensures.front_len, c.words.invariant.0.room, c.requires.0, c.in-len1-up.len_at_least)
+pub loop-name-init : goal.loop-name-init
+loop-name-init c = (loading_start _ _ _ c.requires.rows, outside_none _)
 
 pub invariant_of-header : goal.invariant_of-header
 invariant_of-header c =
-    let rest = c.words.rest.now in
-    let f = loading_first rest _ _ _ _ _ _ c.words.invariant.0 c.in-len1-up.len_at_least in
-    let front = c.split_at.ensures.front ∙ ap (take c.from.result) (all_behind rest) ∙ ap (λ n. take n (drop 1 rest)) c.from.ensures in
-    let n = c.split_at.ensures.front_len in
+    let w = loading_word _ _ _ _ _ _ _ c.loop-name.invariant.0 c.loop-name-test.true in
     record {
-      flagged = f.flags;
-      named = omega (arith, f.some, n, c.from.ensures);
-      short = omega (arith, n, c.from.ensures);
-      text = λ i. subst (λ s. get_or s i 0 < 128) (sym front) (f.name i);
+      flagged = elim c.if-immediate.branch [ then-immediate x ↦ omega (arith, x.header-is) | else-immediate x ↦ omega (arith, x.header-is) ];
+      named = w.some;
+      short = w.short;
+      text = w.text;
     }
 
-pub overflow_add-number : goal.overflow_add-number
-overflow_add-number c = omega (arith, c.words.invariant.0.few, c.requires.0, c.in-len1-up.len_at_least)
+pub kernel_word-requires : goal.kernel_word-requires
+kernel_word-requires c =
+    let w = loading_word _ _ _ _ _ _ _ c.loop-name.invariant.0 c.loop-name-test.true in
+    omega (arith, w.short, c.loop-name.invariant.0.room, c.requires.space)
 
-pub words-preserved : goal.words-preserved
-words-preserved c =
-    let rest = c.words.rest.now in
-    let front = c.split_at.ensures.front ∙ ap (take c.from.result) (all_behind rest) ∙ ap (λ n. take n (drop 1 rest)) c.from.ensures in
-    let back = c.split_at.ensures.back ∙ ap (drop c.from.result) (all_behind rest) ∙ ap (λ n. drop n (drop 1 rest)) c.from.ensures in (
-      loading_more rest _ _ _ _ _ _ _ _ _ _ c.words.invariant.0 c.in-len1-up.len_at_least front back c.kernel_word.ensures.made (omega (arith, c.kernel_word.ensures.dp, c.split_at.ensures.front_len, c.from.ensures)),
-      outside_then c.words.invariant.1 c.kernel_word.ensures.rest,
+pub overflow_add-number : goal.overflow_add-number
+overflow_add-number c = omega (arith, c.loop-name.invariant.0.counts, c.requires.space)
+
+pub loop-name-preserved : goal.loop-name-preserved
+loop-name-preserved c =
+    let f : c.if-immediate.header ≡ cond (get_or c.args.table.now c.loop-name.name-index no_row).1 64 0 = elim c.if-immediate.branch [
+      | then-immediate x ↦ x.header-is ∙ ap (λ b. cond b 64 0) (sym x.if-immediate.true)
+      | else-immediate x ↦ x.header-is ∙ ap (λ b. cond b 64 0) (sym x.if-immediate.false)
+    ] in (
+      loading_more _ _ _ _ _ _ _ c.loop-name.invariant.0 _ _ _ c.loop-name-test.true f c.kernel_word.ensures.made c.kernel_word.ensures.dp,
+      outside_then c.loop-name.invariant.1 c.kernel_word.ensures.rest,
     )
 
 pub returns : goal.returns
-returns c = record { made = loading_end _ _ _ _ _ _ _ c.words.invariant.0 c.in_default.len_below; rest = c.words.invariant.1 }
+returns c = record { made = loading_end _ _ _ _ _ _ _ c.loop-name.invariant.0 c.loop-name-test.false; rest = c.loop-name.invariant.1 }
