@@ -24,7 +24,7 @@ use Rattle.data_words.specs.declared.words.LeavingWord.{LeavingWord}
 use Rattle.data_words.specs.declared.words.UnaryWord.{UnaryWord}
 use Rattle.data_words.specs.declared.words.BinaryWord.{BinaryWord}
 use Rattle.data_words.specs.Numbers.{leaving_number, unary_number, binary_number}
-use Rattle.data_words.specs.Moving.{copied, rolled_up, Reaches}
+use Rattle.data_words.specs.Moving.{copied, rolled_up, ReachesOver}
 use Rattle.data_words.specs.Dividing.{Divides, quotient_of}
 use Rattle.data_words.specs.Tables.{left_by, of_one, of_two}
 use Rattle.data_words.proofs.Acting.{Acts, leaving_acts, unary_acts, binary_acts, drop-acts, question_dup_acts, pick_acts, roll_acts, slash_mod_acts, times_slash_acts, drop_word, question_dup_word}
@@ -121,7 +121,7 @@ module _ (r : Registers) (c : List ℕ) (l : length c ≡ 128) where
   copy_short k e h p i t n s = refused_at (copied k) (seen r i c t n s) e StackUnderflow (rw (lacks_cells r i c t n s l (k + 1) h)) p
 
   -- PICK and ROLL that find too few cells
-  pub reached_not : (n : ℕ) (w : CellsWord) → Acts n w → takes_of w ≡ 1 → ((m : Machine) → has_cells 1 m ≡ true → has_cells (nth 0 m + 2) m ≡ false → do_cells w m ≡ refused StackUnderflow m) → (e : Fault) → Reaches r c (Err e) → OnCells n r c (Err e) r c
+  pub reached_not : (n : ℕ) (w : CellsWord) → Acts n w → takes_of w ≡ 1 → ((m : Machine) → has_cells 1 m ≡ true → has_cells (nth 0 m + 2) m ≡ false → do_cells w m ≡ refused StackUnderflow m) → (e : Fault) → ReachesOver r c (Err e) → OnCells n r c (Err e) r c
   reached_not n w z v deep_no e p = at p.0
     where
       at : (deep r < 1) ⊎ ((1 ≤ deep r) × (deep r < top r c 0 + 2)) → OnCells n r c (Err e) r c

@@ -23,8 +23,8 @@ rolled_up k m = do
   quietly (with_cells (roll 0 k m.stacks.cells) m)
 
 -- PICK and ROLL ask for the number on top, k cells to reach over, and the one that is meant
-abbrev pub Reaches : Registers → List ℕ → Result ℕ Fault → Type 0
-Reaches r c (Ok k) = (1 ≤ r.seat.depths.cells) × (k ≡ slice_index (stack_of r.seat.depths.cells c) 0) × (k + 2 ≤ r.seat.depths.cells)
-Reaches r c (Err e) =
+abbrev pub ReachesOver : Registers → List ℕ → Result ℕ Fault → Type 0
+ReachesOver r c (Ok k) = (1 ≤ r.seat.depths.cells) × (k ≡ slice_index (stack_of r.seat.depths.cells c) 0) × (k + 2 ≤ r.seat.depths.cells)
+ReachesOver r c (Err e) =
     ((r.seat.depths.cells < 1) ⊎ ((1 ≤ r.seat.depths.cells) × (r.seat.depths.cells < slice_index (stack_of r.seat.depths.cells c) 0 + 2)))
     × (e ≡ fault_of StackUnderflow (told_by r.seat))

@@ -1,6 +1,6 @@
 // The words that copy, drop or move cells.
 ghost use Rattle.std.specs.Prelude.{ℕ, ◌<◌, List};
-ghost use Rattle.data_words.specs.Moving.{copied, Reaches, rolled_up};
+ghost use Rattle.data_words.specs.Moving.{copied, ReachesOver, rolled_up};
 ghost use Rattle.data_words.specs.Numbers.{stack_number};
 ghost use Rattle.definition.specs.declared.registers.Mark.{Mark};
 ghost use Rattle.steps.specs.Does.{Does, OnCells, seen};
@@ -52,7 +52,7 @@ fn question_dup(registers: &mut Registers, cells: &mut [u16; 128]) -> Result<(),
 
 // PICK and ROLL: the number k on top, if there are k cells to reach over and the one that is meant.
 fn reached_over(registers: &Registers, cells: &[u16; 128]) -> Result<usize, Fault>
-    ensures { Reaches registers.now cells.now result }
+    ensures { ReachesOver registers.now cells.now result }
 {
     cells::need::<Data>(registers, 1)?;
     let k = usize::from(cells::cell::<Data>(registers, cells, 0));
