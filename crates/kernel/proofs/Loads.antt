@@ -1,6 +1,6 @@
 -- Laws of the kernel's table.
-use Rattle.std.proofs.Common.{◌≡◌, ℕ, zero, suc, ◌+◌, ◌-◌, ◌*◌, ◌%◌, ◌<◌, ◌≤◌, Bool, true, false, cond, ltb, leb, List, [], ◌∷◌, ◌++◌, length, get_or, take, drop, is_ok, Ok, Err, Result, sym, refl, ap, ◌∙◌, subst, arith, MatchResult}
-use Rattle.std.proofs.lemmas.List.{drop_more, drop-drop, drop_all, length-take, length-drop, append-nil}
+use Rattle.std.proofs.Common.{◌≡◌, ℕ, zero, suc, ◌+◌, ◌-◌, ◌*◌, ◌<◌, ◌≤◌, Bool, true, false, cond, ltb, leb, List, [], ◌∷◌, ◌++◌, length, get_or, take, drop, is_ok, Ok, Err, Result, sym, refl, ap, ◌∙◌, arith, MatchResult}
+use Rattle.std.proofs.lemmas.List.{drop_more, drop_all, length-take, append-nil}
 use Rattle.std.proofs.lemmas.Bool.{and_parts, leb-true, ltb-true, le-leb, cond-true, false≢true}
 use Rattle.fault.specs.declared.Fault.{Fault}
 use Rattle.fault.specs.declared.Place.{Place}
@@ -14,7 +14,7 @@ use Rattle.dictionary.specs.Dict.{Dict, defined}
 use Rattle.kernel.specs.Table.{Row, kernel}
 use Rattle.kernel.specs.Boot.{with_kernel, forth_alone, boot_dict}
 use denote.Ref.{Bor}
-use Rattle.kernel.specs.Rows.{row_of, rows_of, all_below128, are_rows}
+use Rattle.kernel.specs.Rows.{rows_of, all_below128, are_rows}
 
 -- what stands where no row is
 abbrev pub no_row : Bor (List ℕ) × Bool

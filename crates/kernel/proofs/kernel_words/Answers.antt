@@ -1,4 +1,4 @@
-use Rattle.std.proofs.Common.{◌≡◌, ◌≤◌, cond, get_or, refl, sym, ap, ◌∙◌, subst, arith}
+use Rattle.std.proofs.Common.{◌≡◌, cond, get_or, sym, ap, ◌∙◌, arith}
 use Rattle.dictionary.proofs.Growing.{outside_none, outside_then}
 use Rattle.kernel.proofs.Loads.{no_row, loading_start, loading_word, loading_more, loading_end}
 use Rattle.kernel.proofs.kernel_words.Goals as goal
