@@ -10,6 +10,7 @@ ghost use Rattle.steps.specs.Does.{OnSpace};
 ghost use Rattle.steps.specs.Seats.{IsAnswered};
 
 use definition::ranged::Registers;
+use dictionary::registers::DATA_SPACE;
 use fault::{Fault, Reason};
 use steps::cells::{self, Data};
 use steps::faults::refusal;
@@ -35,9 +36,6 @@ fn cell_or_zero(image: &[u8; 65536], dp: u16, a: u16) -> u16
     u16::from_le_bytes([byte_or_zero(image, dp, a), byte_or_zero(image, dp, a + 1)])
 }
 
-// Where HERE stands with no data allotted.
-const BOTTOM: u16 = 34048;
-
 // The lowest that HERE may go: the newest entry's first parameter cell, and not below 34,048.
 fn lowest(registers: &Registers, image: &[u8; 65536]) -> u16
     ensures value { result ≡ lowest_of (low_of registers.now.shared.ends.dp image.now) registers.now.shared.names.newest }
@@ -47,7 +45,7 @@ fn lowest(registers: &Registers, image: &[u8; 65536]) -> u16
     let newest = registers.shared.names.newest;
     let length = byte_or_zero(image, dp, newest + 2) % 32;
     let first = newest + 5 + u16::from(length);
-    BOTTOM.max(cell_or_zero(image, dp, first))
+    DATA_SPACE.max(cell_or_zero(image, dp, first))
 }
 
 // Where HERE goes, if it may.
