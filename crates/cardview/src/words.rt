@@ -1,4 +1,4 @@
-// Lists the words of a dictionary, by vocabulary and thread, youngest first.
+// Lists the words of a dictionary, by vocabulary and thread, youngest first. Threads and the chain are walked by loops, as the library does.
 ghost use Rattle.std.specs.Prelude.{◌+◌, ◌≤◌, length};
 ghost use Rattle.entries.specs.Entries.{first_at};
 

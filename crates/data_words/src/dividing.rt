@@ -1,4 +1,4 @@
-// The words that divide, floored.
+// The words that divide, floored. `/` and MOD are two lines round what they share, each with the half of the pair that it takes.
 ghost use Rattle.std.specs.Prelude.{◌≡◌, Some, None};
 ghost use Rattle.data_words.specs.Dividing.{Divides};
 ghost use Rattle.data_words.specs.Numbers.{divide_number};

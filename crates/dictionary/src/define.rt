@@ -1,4 +1,4 @@
-// Entries begun and joined.
+// Entries begun and joined. A cast loses nothing: a name has at most 31 bytes.
 ghost use Rattle.std.specs.Prelude.{◌≡◌, ◌+◌, ◌-◌, ◌<◌, ◌≤◌, [], ◌++◌, length, OnOk};
 ghost use Rattle.dictionary.specs.Dict.{begun, colon_begun, defined, open_joined, vocabulary_defined};
 ghost use Rattle.dictionary.specs.Lent.{Did, Outside, dict_of, with_room};

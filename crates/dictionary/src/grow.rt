@@ -1,4 +1,4 @@
-// Bytes appended at DP.
+// Bytes appended at DP. A cast loses nothing: there is space up to 32,768.
 ghost use Rattle.std.specs.Prelude.{◌≡◌, ◌+◌, ◌/◌, ◌%◌, ◌<◌, ◌≤◌, [], ◌∷◌, length, MatchResult};
 ghost use Rattle.dictionary.specs.Dict.{appended};
 ghost use Rattle.dictionary.specs.Lent.{Did, Outside, dict_of, with_room};

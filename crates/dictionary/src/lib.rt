@@ -1,4 +1,5 @@
-// The dictionary: entries, threads and vocabularies, as the bytes of the image up to DP.
+// The dictionary: entries, threads and vocabularies, as the bytes of the image up to DP. Registers hold no lent memory, so the image
+// comes with each call, and so does the place that a refusal is told.
 #![tactic(auto)]
 
 mod change;

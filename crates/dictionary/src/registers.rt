@@ -15,7 +15,7 @@ pub struct Ends {
     pub here: u16,
 }
 
-// The newest entry, the youngest vocabulary link (VOC-LINK), and the entry that `:` began, or 0.
+// The newest entry, the youngest vocabulary link (VOC-LINK), and the entry that `:` began, or 0: registers are plain numbers.
 #[derive(Clone, Copy, Debug, PartialEq, Eq)]
 pub struct Names {
     pub newest: u16,

@@ -1,4 +1,5 @@
-// Threads: from a head down the links, youngest entry first.
+// Threads: from a head down the links, youngest entry first. A link of 0 ends one, as it lies in the image; here it becomes None.
+// Which addresses a method may be asked is a clause: an address type would be made and unmade at every link that is read.
 ghost use Rattle.std.specs.Prelude.{◌≡◌, suc, ◌+◌, ◌≤◌, length, IfOk, IfSome};
 ghost use Rattle.entries.specs.Entries.{head_at, spelled};
 ghost use Rattle.entries.specs.Search.{in_order, search_in, walk};

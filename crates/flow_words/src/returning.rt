@@ -1,4 +1,5 @@
-// The words on the return stack.
+// The words on the return stack. EXIT and LEAVE differ in how many cells go and which is kept, >R and R> in which stack gives: the calls that
+// they are made of are shared, and one function for two of them would only choose between them again.
 ghost use Rattle.std.specs.Prelude.{◌≡◌, ℕ, ◌<◌, List};
 ghost use Rattle.definition.specs.Flow.{do_returns};
 ghost use Rattle.definition.specs.Kernel.{copy_at as copied_at};

@@ -1,4 +1,4 @@
-// Copying one card to another through the store's calls, and comparing two cards.
+// Copying one card to another through the store's calls, and comparing two cards. What is counted are block numbers, which a store is asked by.
 ghost use Rattle.std.specs.Prelude.{◌≡◌, ◌<◌, true};
 ghost use Rattle.kits.specs.Copies.{Compares, Copies, CopiesBlock, FindsDifference};
 

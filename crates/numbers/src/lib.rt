@@ -1,5 +1,5 @@
 // Numbers: divided, read from text and written as text. A base stays a cell with a clause: callers hold BASE as a
-// cell, and a type of bases would be made and taken apart at each call.
+// cell, and a type of bases would be made and taken apart at each call. A cast loses nothing: each value is shown to fit.
 #![tactic(auto)]
 
 ghost use Rattle.std.specs.Prelude.{◌≡◌, ◌/◌, ◌<◌, ◌≤◌, [], ◌∷◌, length, pos, ◌*ℤ◌, Some};
@@ -149,7 +149,7 @@ fn digit_byte(digit: u16) -> u8
     }
 }
 
-// How many bytes a cell takes as an unsigned number.
+// How many bytes a cell takes as an unsigned number. No index is counted: each round takes a digit off.
 #[tactic(auto, using(crate::proofs::Printing::width_one, crate::proofs::Printing::width_more, crate::proofs::Printing::width_is, crate::proofs::Printing::width_short, crate::proofs::Printing::front_falls))]
 pub fn unsigned_width(base: u16, value: u16) -> usize
     requires { (2 ≤ base) × (base ≤ 36) }

@@ -28,7 +28,7 @@ fn is_entry(opened: u16) -> bool
     opened != 0
 }
 
-// May a machine with this open entry, or 0, compile? At every moment from boot one that compiles has an entry open, and
+// May a machine with this open entry, or 0, compile? (Registers are plain numbers.) At every moment from boot one that compiles has an entry open, and
 // every mark lies in it.
 pub fn may_compile(opened: u16) -> bool
     ensures answer { result ≡ not (opened == 0) }

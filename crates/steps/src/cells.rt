@@ -112,7 +112,7 @@ pub fn cell<S: CellStack>(registers: &Registers, cells: &[u16; 128], k: usize) -
     stacks::pick(cells, usize::from(S::depth(registers)), k)
 }
 
-// Puts a cell on top.
+// Puts a cell on top. The cast loses nothing: a depth is at most 128. `push` and `release` are alike in shape alone.
 pub fn push<S: CellStack>(registers: &mut Registers, cells: &mut [u16; 128], x: u16)
     requires { S.depth_of registers.old.seat < 128 }
     ensures shared { registers.new.shared ≡ registers.old.shared }

@@ -1,4 +1,4 @@
-// Names: words of 1 to 31 bytes from 33 to 126.
+// Names: words of 1 to 31 bytes from 33 to 126, so the cast of a length loses nothing.
 ghost use Rattle.std.specs.Prelude.{◌≡◌, ◌≤◌, true, length};
 ghost use Rattle.definition.specs.Text.{is_name};
 ghost use Rattle.std.specs.List.{list_all};

@@ -1,4 +1,5 @@
-// The vocabulary chain, from VOC-LINK down.
+// The vocabulary chain, from VOC-LINK down. It is walked by loops: one stops at a link out of order, and one writes the image between two
+// steps, which an iterator that reads the image forbids. 0 ends a chain, and names no entry, as in the image.
 ghost use Rattle.std.specs.Prelude.{◌≡◌, ◌+◌, ◌-◌, ◌<◌, ◌≤◌, true, length, take};
 ghost use Rattle.dictionary.specs.Lent.{Outside};
 ghost use Rattle.dictionary.specs.Trim.{chain, chained, in_chain, left, link_of, trim_vocs, youngest};

@@ -27,7 +27,8 @@ impl<'a> Falling<'a> {
         Falling { entries, w }
     }
 
-    // The first entry below w from a link down, or 0; nothing if a link on the way is out of order.
+    // The first entry below w from a link down, or 0, which the head then holds; nothing if a link on the way is out of order. A loop, as every
+    // walk along links.
     fn first_below(&self, head: u16) -> Option<u16>
         ensures { result ≡ fell self.now.entries self.now.w head }
     {

@@ -76,6 +76,7 @@ fn number(
     Ok(finish(registers, cells, 1, fitted))
 }
 
+// The cast loses nothing, and an edit shows that 128 counts.
 fn low_seven_bits(x: u16) -> u8
     ensures { result ≡ x % 128 }
 {
