@@ -11,7 +11,7 @@ use steps::cells::{self, Data};
 use steps::faults::ask;
 use store::Store;
 
-#[derive(Clone, Copy)]
+#[derive(Clone, Copy, PartialEq, Eq, Debug)]
 pub enum BlockWord {
     Block,
     Update,
@@ -68,13 +68,7 @@ fn flush<S: Store>(
     ensures { (c : List ℕ) → OnBlocks 57 registers.old image.now c (S.Store.means store.old) result registers.new image.now c (S.Store.means store.new) }
 {
     write_out(registers, image, store)?;
-    assign(
-        registers,
-        Buffer {
-            held: None,
-            updated: false,
-        },
-    );
+    assign(registers, Buffer::default());
     Ok(())
 }
 

@@ -3,7 +3,7 @@ use fault::Place;
 use std::io;
 use store::Store;
 
-// A line for each block: its number, its first line and how many lines are used; answers how many are in all.
+// Block numbers are counted: a store is asked by them. A line for each block: its number, its first line and how many lines are used; answers how many are in all.
 pub fn list<S: Store>(rt: &HostRuntime, card: &S) -> anyhow::Result<usize> {
     let mut buffer = [0u8; 1024];
     let mut used = 0usize;

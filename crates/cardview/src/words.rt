@@ -1,4 +1,4 @@
-// Lists the words of a dictionary, by vocabulary and thread, youngest first. Threads and the chain are walked by loops, as the library does.
+// Lists the words of a dictionary, by vocabulary and thread, youngest first. Links are walked by loops, as in the library.
 ghost use Rattle.std.specs.Prelude.{◌+◌, ◌≤◌, length};
 ghost use Rattle.entries.specs.Entries.{first_at};
 
@@ -67,6 +67,7 @@ fn list_entry(rt: &HostRuntime, entries: &Entries<'_>, e: u16) -> io::Result<()>
         ""
     };
     print!(rt; "  {e:>5} {number:>3} ")?;
+    // By address: an entry is read a byte at a time.
     for a in e + 3..entries.token_of(e) {
         rt.print(char::from(entries.byte(a) % 128))?;
     }

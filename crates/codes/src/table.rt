@@ -1,5 +1,5 @@
 // The codes in the order of the kernel table, by its parts: a match on numbers, since codes in the image are numbers, and each step
-// looks one up.
+// looks one up. Parts with the same kinds of word look alike; their rows differ.
 ghost use Rattle.std.specs.Prelude.{◌≡◌, ◌≤◌};
 ghost use Rattle.codes.specs.Codes.{Coded, SeldomCoded};
 
@@ -8,6 +8,7 @@ use block_words::words::BlockWord;
 use compiling_words::words::CompilingWord;
 use control_words::words::ControlWord;
 use data_words::words::{BinaryWord, DivideWord, LeavingWord, StackWord, UnaryWord};
+use dictionary::code;
 use flow_words::words::{InlineWord, ReturnsWord};
 use growing_words::words::AppendingWord;
 use naming_words::words::NamingWord;
@@ -195,11 +196,11 @@ impl From<u16> for Code {
             64..=79 => Code::Seldom(defining_code(number)),
             80..=90 => Code::Seldom(control_code(number)),
             91..=105 => inside_code(number),
-            201 => Code::Colon,
-            202 => Code::Created,
-            203 => Code::Constant,
-            204 => Code::Seldom(SeldomWord::Vocabulary),
-            205 => Code::Does,
+            code::COLON => Code::Colon,
+            code::CREATED => Code::Created,
+            code::CONSTANT => Code::Constant,
+            code::VOCABULARY => Code::Seldom(SeldomWord::Vocabulary),
+            code::DOES => Code::Does,
             _ => Code::Seldom(SeldomWord::Unknown),
         }
     }

@@ -1,5 +1,5 @@
-// words
-#[derive(Clone, Copy)]
+// The words that compile.
+#[derive(Clone, Copy, PartialEq, Eq, Debug)]
 pub enum CompilingWord {
     Semicolon,
     Definitions,

@@ -1,3 +1,4 @@
+// The words that make control structures: so far only what they are called.
 #![tactic(auto)]
 
 pub mod words;

@@ -1,5 +1,5 @@
-// words
-#[derive(Clone, Copy)]
+// The words that make control structures.
+#[derive(Clone, Copy, PartialEq, Eq, Debug)]
 pub enum ControlWord {
     If,
     Else,

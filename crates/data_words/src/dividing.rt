@@ -1,4 +1,4 @@
-// The words that divide, floored. `/` and MOD are two lines round what they share, each with the half of the pair that it takes.
+// The words that divide, floored. `/` and MOD differ in the half of the pair that they take; what they share is `divided`.
 ghost use Rattle.std.specs.Prelude.{◌≡◌, Some, None};
 ghost use Rattle.data_words.specs.Dividing.{Divides};
 ghost use Rattle.data_words.specs.Numbers.{divide_number};
@@ -61,8 +61,8 @@ fn times_slash(registers: &mut Registers, cells: &mut [u16; 128]) -> Result<(), 
     let first = cells::cell::<Data>(registers, cells, 2);
     let second = cells::cell::<Data>(registers, cells, 1);
     let divisor = cells::cell::<Data>(registers, cells, 0);
-    let pair = in_cells(registers, numbers::divide_product(first, second, divisor))?;
-    cells::replace(registers, cells, 3, pair.1);
+    let (_, quotient) = in_cells(registers, numbers::divide_product(first, second, divisor))?;
+    cells::replace(registers, cells, 3, quotient);
     Ok(())
 }
 

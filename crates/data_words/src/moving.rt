@@ -11,7 +11,7 @@ use definition::ranged::Registers;
 use fault::Fault;
 use steps::cells::{self, Data};
 
-// DUP and OVER: the k-th cell is copied to the top.
+// DUP and OVER: the k-th cell is copied to the top; the bound on k, here and below, is against overflow alone.
 fn copy_cell(registers: &mut Registers, k: usize, cells: &mut [u16; 128]) -> Result<(), Fault>
     requires { k < 128 }
     ensures { (i t : List ℕ) (n : List Mark) (s : Meaning) → Does (copied k) (seen registers.old i cells.old t n s) result (seen registers.new i cells.new t n s) }

@@ -19,7 +19,7 @@ pub struct Mark {
     pub address: u16,
 }
 
-// The block that the buffer holds, if any, and the update flag.
+// The block that the buffer holds, if any, and the update flag: two fields, since registers from elsewhere may have the flag and no block.
 #[derive(Clone, Copy, PartialEq, Eq, Debug, Default)]
 pub struct Buffer {
     pub held: Option<u16>,
@@ -34,7 +34,7 @@ pub struct Shared {
     pub buffer: Buffer,
 }
 
-// The compiling flag and the instruction pointer IP.
+// The compiling flag and the instruction pointer IP, which is 0 where no word runs.
 #[derive(Clone, Copy, PartialEq, Eq, Debug, Default)]
 pub struct Flow {
     pub compiling: bool,
@@ -49,7 +49,7 @@ pub struct Depths {
     pub marks: u16,
 }
 
-// Where text goes on: BLK and >IN. An open load keeps its caller's.
+// Where text goes on: BLK, which is 0 in the line, and >IN. An open load keeps its caller's.
 #[derive(Clone, Copy, PartialEq, Eq, Debug, Default)]
 pub struct Position {
     pub blk: u16,

@@ -16,7 +16,7 @@ use fault::{Fault, Place};
 #[derive(Clone, Copy)]
 pub struct Header<'a> {
     pub view: u16,
-    // A number: as a flag that is true or false it asks more of callers.
+    // A number and no bool: the definition takes any flags up to 64, and so must this.
     pub flags: u8,
     pub name: &'a [u8],
     pub code: u16,

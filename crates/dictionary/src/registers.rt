@@ -15,7 +15,8 @@ pub struct Ends {
     pub here: u16,
 }
 
-// The newest entry, the youngest vocabulary link (VOC-LINK), and the entry that `:` began, or 0: registers are plain numbers.
+// The newest entry, the youngest vocabulary link (VOC-LINK), and the entry that `:` began, or 0, which is no entry's address: registers
+// are plain numbers.
 #[derive(Clone, Copy, Debug, PartialEq, Eq)]
 pub struct Names {
     pub newest: u16,

@@ -1,4 +1,5 @@
-// One entry: its bytes, its cells, its name.
+// One entry: its bytes, its cells, its name. Any DP may be seen, as `byte` and `cell` promise; what walks links asks for one up to
+// 32,768. Which addresses may be asked is a clause: an address type would be made and unmade at every read.
 ghost use Rattle.std.specs.Prelude.{◌≡◌, ◌+◌, ◌<◌, ◌≤◌, length, max};
 ghost use Rattle.entries.specs.Entries.{first_at, is_immediate, is_named, name_length, spelled, token_of};
 ghost use Rattle.entries.specs.Threads.{Ascii};

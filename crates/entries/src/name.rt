@@ -1,5 +1,5 @@
 // A name as its entry holds it, and the thread that it belongs to.
-// A name stays a slice: a struct round it says no more than the two facts that each caller has from its own test.
+// A name stays a slice: a search asks two facts of it and a header three, so one struct would ask more of a search than it needs.
 ghost use Rattle.std.specs.Prelude.{◌≡◌, ◌%◌, ◌<◌, ◌≤◌, length};
 ghost use Rattle.entries.specs.Entries.{spelled};
 ghost use Rattle.entries.specs.Threads.{Ascii};

@@ -42,7 +42,7 @@ impl<'a> Entries<'a> {
         ensures found { result ≡ answered told (walk (suc (length self.now)) self.now (length self.now) (spelled name.now) (length self.now) head) }
         ensures youngest { FindsYoungest told self.now (spelled name.now) head result }
     {
-        // A loop: an iterator along the links carries the same two values, and the place besides.
+        // A loop, no iterator: one that may be refused answers a Result at each step, to be taken apart in every walk.
         let mut before = self.end();
         let mut link = head;
         'links: while let Some(e) = self.next_in_thread(before, link, told)? {

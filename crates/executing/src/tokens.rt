@@ -5,6 +5,7 @@ ghost use Rattle.executing.specs.Tokens.{Pops, Released, Through, is_execute};
 use definition::ranged::Registers;
 use fault::Fault;
 use steps::cells::{self, Data};
+use steps::inside::is_inside;
 
 // The code of EXECUTE.
 const EXECUTE: u16 = 59;
@@ -13,10 +14,7 @@ const EXECUTE: u16 = 59;
 fn executes(registers: &Registers, image: &[u8; 65536], token: u16) -> bool
     ensures { result ≡ is_execute registers.now.shared.ends.dp image.now token }
 {
-    if token < 256 || usize::from(token) + 2 > usize::from(registers.shared.ends.dp) {
-        return false;
-    }
-    image::fetch(image, usize::from(token)) == EXECUTE
+    is_inside(registers, token, 2) && image::fetch(image, usize::from(token)) == EXECUTE
 }
 
 // Takes the top cell off.
@@ -29,7 +27,7 @@ fn pop(registers: &mut Registers, cells: &[u16; 128]) -> Result<u16, Fault>
     Ok(x)
 }
 
-// The token that is executed: EXECUTE goes on with the one that it takes off the stack. No index is counted: each round takes a cell.
+// The token that is executed: EXECUTE goes on with the one that it takes off the stack. Each round takes a cell: no index is counted.
 pub(crate) fn through_execute(
     registers: &mut Registers,
     image: &[u8; 65536],

@@ -120,6 +120,7 @@ impl Fault {
     }
 }
 
+// Display is written out: the library needs no crate but the standard one.
 impl fmt::Display for Layer {
     fn fmt<W: fmt::Write>(&self, f: &mut fmt::Formatter<W>) -> fmt::Result {
         write!(f, "{self:?}")
@@ -179,6 +180,7 @@ impl error::Error for Fault {}
 
 impl fmt::Display for Place {
     fn fmt<W: fmt::Write>(&self, f: &mut fmt::Formatter<W>) -> fmt::Result {
+        // A place is plain numbers, as registers tell it: no word has length 0.
         if self.length == 0 {
             return f.write_str("before any word");
         }

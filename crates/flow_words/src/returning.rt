@@ -1,5 +1,5 @@
-// The words on the return stack. EXIT and LEAVE differ in how many cells go and which is kept, >R and R> in which stack gives: the calls that
-// they are made of are shared, and one function for two of them would only choose between them again.
+// The words on the return stack. EXIT and LEAVE differ in how many cells go and which is kept, >R and R> in which stack gives. The
+// calls are shared: one function for two would only choose between them again.
 ghost use Rattle.std.specs.Prelude.{◌≡◌, ℕ, ◌<◌, List};
 ghost use Rattle.definition.specs.Flow.{do_returns};
 ghost use Rattle.definition.specs.Kernel.{copy_at as copied_at};
@@ -55,7 +55,8 @@ fn r_from(
     Ok(())
 }
 
-// Which return cell R@, I and J copy: the top, and the outer loop's index, below the three cells of the inner loop.
+// Which return cell R@, I and J copy: the top, and the outer loop's index, below the three cells of the inner loop. A function, so
+// that the place is proved here and not beside the words.
 fn copied_place(word: ReturnsWord) -> usize
     ensures { result ≡ copied_place word }
 {

@@ -15,7 +15,8 @@ use fault::{Fault, Reason};
 use steps::cells::{self, Data};
 use steps::faults::refusal;
 
-// A byte of the dictionary; what does not lie in it counts as 0.
+// A byte of the dictionary; what does not lie in it counts as 0. Not by `Entries`: the newest entry of registers from elsewhere may
+// lie outside.
 fn byte_or_zero(image: &[u8; 65536], dp: u16, a: u16) -> u8
     requires { 256 ≤ dp }
     ensures { result ≡ at (low_of dp image.now) a }

@@ -160,7 +160,8 @@ fn forth_alone(image: &mut [u8; 65536]) -> Dictionary
     }
 }
 
-// Defines the words of a table, numbered from 1. The number is counted beside the rows: by `enumerate` it is an index to be cast.
+// Defines the words of a table, numbered from 1. The number is counted beside the rows: by `enumerate` it is an index to be
+// cast, and by a `zip` one more list to bound.
 fn kernel_words(d: &mut Dictionary, image: &mut [u8; 65536], table: &[(&[u8], bool)])
     requires space { d.old.ends.dp + 40 * length table.now ≤ 32768 }
     requires rows { are_rows table.now ≡ true }

@@ -7,7 +7,8 @@ ghost use Rattle.kernel_table.specs.Table.{boot_seat, boot_shared, KernelStands,
 
 use definition::ranged::Registers;
 use definition::registers::{Buffer, LastWord, Seat, Shared};
-use dictionary::registers::{Ends, Names, SearchOrder};
+use dictionary::FORTH;
+use dictionary::registers::{DATA_SPACE, Ends, Names, SearchOrder};
 
 // DP at boot, behind the kernel words; nothing below it is forgotten.
 const FENCE: u16 = 1618;
@@ -29,7 +30,7 @@ pub fn booted() -> Registers
     let shared = Shared {
         ends: Ends {
             dp: FENCE,
-            here: 34048,
+            here: DATA_SPACE,
         },
         names: Names {
             newest: 1607,
@@ -39,8 +40,8 @@ pub fn booted() -> Registers
         buffer: Buffer::default(),
     };
     let order = SearchOrder {
-        context: 270,
-        current: 270,
+        context: FORTH,
+        current: FORTH,
     };
     Registers {
         shared,

@@ -1,4 +1,4 @@
-// Copying one card to another through the store's calls, and comparing two cards. What is counted are block numbers, which a store is asked by.
+// Copying one card to another through the store's calls, and comparing two. Block numbers are counted: a store is asked by them.
 ghost use Rattle.std.specs.Prelude.{◌≡◌, ◌<◌, true};
 ghost use Rattle.kits.specs.Copies.{Compares, Copies, CopiesBlock, FindsDifference};
 

@@ -53,8 +53,8 @@ pub fn load_word(registers: &mut Registers, cells: &[u16; 128]) -> Result<(), Fa
     Ok(())
 }
 
-// Where no word is left: the innermost load ends and its caller goes on. Is there none, the line is finished. Yes or no is all
-// that the caller needs.
+// Where no word is left: the innermost load ends and its caller goes on. Is there none, the line is finished: a bool,
+// since there is no value and no reason to tell.
 pub fn end_load(registers: &mut Registers) -> bool
     ensures { EndsLoad registers.old result registers.new }
 {

@@ -1,5 +1,5 @@
-// words
-#[derive(Clone, Copy)]
+// The words that take a name.
+#[derive(Clone, Copy, PartialEq, Eq, Debug)]
 pub enum NamingWord {
     Tick,
     Paren,

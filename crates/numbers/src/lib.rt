@@ -1,5 +1,6 @@
-// Numbers: divided, read from text and written as text. A base stays a cell with a clause: callers hold BASE as a
-// cell, and a type of bases would be made and taken apart at each call. A cast loses nothing: each value is shown to fit.
+// Numbers: divided, read from text and written as text. A base stays a cell with a clause: the functions
+// take any cell that the clause allows, and a type would be one thing more for callers to make. A cast loses nothing: each value
+// is shown to fit.
 #![tactic(auto)]
 
 ghost use Rattle.std.specs.Prelude.{◌≡◌, ◌/◌, ◌<◌, ◌≤◌, [], ◌∷◌, length, pos, ◌*ℤ◌, Some};
@@ -137,7 +138,7 @@ pub fn read_number(base: u16, text: &[u8]) -> Option<u16>
     }
 }
 
-// The byte that writes a digit.
+// The byte that writes a digit; the library's `from_digit` gives small letters.
 fn digit_byte(digit: u16) -> u8
     requires { digit < 36 }
     ensures { result ≡ digit_byte digit }
@@ -149,7 +150,7 @@ fn digit_byte(digit: u16) -> u8
     }
 }
 
-// How many bytes a cell takes as an unsigned number. No index is counted: each round takes a digit off.
+// How many bytes a cell takes as an unsigned number. Each round takes a digit off, as the definition does: no index is counted.
 #[tactic(auto, using(crate::proofs::Printing::width_one, crate::proofs::Printing::width_more, crate::proofs::Printing::width_is, crate::proofs::Printing::width_short, crate::proofs::Printing::front_falls))]
 pub fn unsigned_width(base: u16, value: u16) -> usize
     requires { (2 ≤ base) × (base ≤ 36) }

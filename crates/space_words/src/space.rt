@@ -1,4 +1,4 @@
-// Fetching and storing.
+// Fetching and storing: n counts bytes, 1 or 2, as the definition's `fetches` and `stores` do.
 ghost use Rattle.std.specs.Prelude.{◌≡◌, ℕ, ◌+◌, ◌<◌, ◌≤◌, if◌then◌else◌, nat_eq, take};
 ghost use Rattle.definition.specs.Kernel.{fetches, stores};
 ghost use Rattle.image.specs.Cells.{at, cell, cell_at};

@@ -26,7 +26,7 @@ pub fn pick<T: Copy>(cells: &[T], depth: usize, k: usize) -> T
     cells[depth - 1 - k]
 }
 
-// Takes the top n elements off; the new depth.
+// Takes the top n elements off; the new depth. The slice is lent for the contract, which speaks of the stack.
 #[tactic(auto, using(crate::proofs::Laws::drop_stack))]
 pub fn drop_top<T: Copy>(cells: &[T], depth: usize, n: usize) -> usize
     requires { (n ≤ depth) × (depth ≤ length cells.now) }

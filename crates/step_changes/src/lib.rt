@@ -4,6 +4,7 @@
 ghost use Rattle.std.specs.Prelude.{◌≡◌, not, ◌==◌, nat_lt};
 ghost use Rattle.step_changes.specs.Laws.{StepChanges, StepForgets, StoryTold, CallsInMoments, SteadyAlways, CompilesOpen, MarksInside};
 
+// A function of its own, so that the comparison is proved here and not beside the laws; `is_entry` too.
 fn is_older(word: u16, than: u16) -> bool
     ensures { result ≡ nat_lt word than }
 {
@@ -28,8 +29,8 @@ fn is_entry(opened: u16) -> bool
     opened != 0
 }
 
-// May a machine with this open entry, or 0, compile? (Registers are plain numbers.) At every moment from boot one that compiles has an entry open, and
-// every mark lies in it.
+// May a machine with this open entry, or 0, compile? (Registers are plain numbers.) At every moment from boot one that compiles has
+// an entry open, and every mark lies in it.
 pub fn may_compile(opened: u16) -> bool
     ensures answer { result ≡ not (opened == 0) }
     ensures steady { SteadyAlways }

@@ -1,4 +1,5 @@
-// A name, copied out of the text, since the image is written while it is in use. There is no heap: it has 31 places and a count.
+// A name, copied out of the text, since the image is written while it is in use. There is no heap and no crate but
+// the standard one: it has 31 places and a count.
 ghost use Rattle.std.specs.Prelude.{◌≡◌, ◌≤◌, true, length, take};
 ghost use Rattle.definition.specs.Text.{is_name};
 

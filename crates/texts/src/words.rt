@@ -43,7 +43,7 @@ pub(crate) fn text_of<'a>(registers: &Registers, image: &'a [u8; 65536]) -> &'a 
     &image[start..end]
 }
 
-// Where the next word lies in the text. Its length is 0 where none is left, and then too its place is the definition's, so this is
+// Where the next word lies in the text. Where none is left its length is 0 and its place the text's end, which the definition keeps:
 // no Option. The casts lose nothing: a text has at most 1,024 bytes.
 pub fn next_word(registers: &Registers, image: &[u8; 65536]) -> LastWord
     ensures place { NextIs registers.now image.now result }

@@ -12,14 +12,11 @@ ghost use Rattle.steps.specs.Seats.{IsAnswered};
 ghost use Rattle.store.specs.Meaning.{Meaning};
 
 use definition::ranged::Registers;
-use dictionary::code::DOES;
+use dictionary::code::{CREATED, DOES};
 use fault::{Fault, Reason};
 use steps::cells::{self, Data};
 use steps::faults::ask;
 use steps::inside::{ask_inside, is_inside};
-
-// The code of a word that CREATE made; DOES> gives it another.
-const CREATED: u16 = 202;
 
 // Words whose token pushes a cell of their entry.
 #[derive(Clone, Copy, PartialEq, Eq, Debug)]

@@ -1,5 +1,5 @@
-// The vocabulary chain, from VOC-LINK down. It is walked by loops: one stops at a link out of order, and one writes the image between two
-// steps, which an iterator that reads the image forbids. 0 ends a chain, and names no entry, as in the image.
+// The vocabulary chain, from VOC-LINK down, walked by loops: a link may be out of order, and the image is written between two steps,
+// which an iterator that reads it forbids. 0 ends a chain, and names no entry, as in the image.
 ghost use Rattle.std.specs.Prelude.{◌≡◌, ◌+◌, ◌-◌, ◌<◌, ◌≤◌, true, length, take};
 ghost use Rattle.dictionary.specs.Lent.{Outside};
 ghost use Rattle.dictionary.specs.Trim.{chain, chained, in_chain, left, link_of, trim_vocs, youngest};

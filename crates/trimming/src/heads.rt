@@ -27,8 +27,8 @@ impl<'a> Falling<'a> {
         Falling { entries, w }
     }
 
-    // The first entry below w from a link down, or 0, which the head then holds; nothing if a link on the way is out of order. A loop, as every
-    // walk along links.
+    // The first entry below w from a link down, or 0, which the head then holds; nothing if a link on the way is out of order. A
+    // loop, as every walk along links.
     fn first_below(&self, head: u16) -> Option<u16>
         ensures { result ≡ fell self.now.entries self.now.w head }
     {
@@ -75,7 +75,7 @@ fn lower(d: &Dictionary, image: &mut [u8; 65536], w: u16, a: u16)
     d.patch(image, a, x);
 }
 
-// Moves the four heads of a vocabulary.
+// Moves the four heads of a vocabulary, by number: each is written, and the definition goes from the last.
 pub(crate) fn lower_threads(d: &Dictionary, image: &mut [u8; 65536], w: u16, vocabulary: u16)
     requires { (256 ≤ vocabulary) × ((vocabulary + 8 ≤ d.now.ends.dp) × ((vocabulary + 8 ≤ w) × (Falls (low_of d.now.ends.dp image.old) w vocabulary 4))) }
     ensures bytes { low_of d.now.ends.dp image.new ≡ trim_voc w vocabulary 4 (low_of d.now.ends.dp image.old) }

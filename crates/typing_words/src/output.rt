@@ -16,6 +16,7 @@ impl<'a> Output<'a> {
     pub fn new(bytes: &'a mut [u8]) -> Output<'a>
         ensures bytes { result.bytes.now ≡ bytes.old }
         ensures typed { result.typed ≡ 0 }
+        ensures same_reference { result.bytes.ghost_name ≡ bytes.entry.ghost_name }
     {
         Output { bytes, typed: 0 }
     }
@@ -27,9 +28,10 @@ impl<'a> Output<'a> {
         n <= self.bytes.len() - self.typed
     }
 
-    // Types bytes, if they fit. Yes or no is all that a word needs.
+    // Types bytes, if they fit: a bool, of which the word makes its Progress; there is no value and no reason to tell.
     pub(crate) fn type_bytes(&mut self, bytes: &[u8]) -> bool
-        ensures { Types self.old.bytes.now self.old.typed bytes.now result self.new.bytes.now self.new.typed }
+        ensures types { Types self.old.bytes.now self.old.typed bytes.now result self.new.bytes.now self.new.typed }
+        ensures same_reference { self.new.bytes.ghost_name ≡ self.old.bytes.ghost_name }
     {
         if !self.has_space(bytes.len()) {
             return false;
@@ -40,7 +42,8 @@ impl<'a> Output<'a> {
 
     // Types n blanks, if they fit.
     pub(crate) fn type_blanks(&mut self, n: usize) -> bool
-        ensures { Types self.old.bytes.now self.old.typed (replicate n 32) result self.new.bytes.now self.new.typed }
+        ensures types { Types self.old.bytes.now self.old.typed (replicate n 32) result self.new.bytes.now self.new.typed }
+        ensures same_reference { self.new.bytes.ghost_name ≡ self.old.bytes.ghost_name }
     {
         if !self.has_space(n) {
             return false;

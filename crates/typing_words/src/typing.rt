@@ -40,7 +40,7 @@ fn base_of(registers: &Registers, image: &[u8; 65536]) -> Result<u16, Fault>
     Ok(base)
 }
 
-// Writes a cell in a base, signed or unsigned, and the blank behind it to the front of blanks; how many bytes they are.
+// Writes a cell in a base, signed or unsigned, and the blank behind it to the front of blanks; how many bytes they are: there is no heap.
 fn write_number(base: u16, x: u16, signed: bool, text: &mut [u8; 18]) -> usize
     requires base { (2 ≤ base) × (base ≤ 36) }
     requires blank { text.old ≡ replicate 18 32 }
@@ -65,7 +65,8 @@ fn number(
     output: &mut Output,
     signed: bool,
 ) -> Result<Progress, Fault>
-    ensures { OnOutput (number_word signed) registers.old image.now cells.now output.old.bytes.now output.old.typed result registers.new output.new.bytes.now output.new.typed }
+    ensures did { OnOutput (number_word signed) registers.old image.now cells.now output.old.bytes.now output.old.typed result registers.new output.new.bytes.now output.new.typed }
+    ensures same_reference { output.new.bytes.ghost_name ≡ output.old.bytes.ghost_name }
 {
     cells::need::<Data>(registers, 1)?;
     let base = base_of(registers, image)?;
@@ -76,7 +77,7 @@ fn number(
     Ok(finish(registers, cells, 1, fitted))
 }
 
-// The cast loses nothing, and an edit shows that 128 counts.
+// The cast loses nothing: the rest is below 128.
 fn low_seven_bits(x: u16) -> u8
     ensures { result ≡ x % 128 }
 {
@@ -89,7 +90,8 @@ fn emit(
     cells: &[u16; 128],
     output: &mut Output,
 ) -> Result<Progress, Fault>
-    ensures { OnOutput 51 registers.old image.now cells.now output.old.bytes.now output.old.typed result registers.new output.new.bytes.now output.new.typed }
+    ensures did { OnOutput 51 registers.old image.now cells.now output.old.bytes.now output.old.typed result registers.new output.new.bytes.now output.new.typed }
+    ensures same_reference { output.new.bytes.ghost_name ≡ output.old.bytes.ghost_name }
 {
     cells::need::<Data>(registers, 1)?;
     let byte = low_seven_bits(cells::cell::<Data>(registers, cells, 0));
@@ -110,7 +112,8 @@ fn type_space(
     cells: &[u16; 128],
     output: &mut Output,
 ) -> Result<Progress, Fault>
-    ensures { OnOutput 52 registers.old image.now cells.now output.old.bytes.now output.old.typed result registers.new output.new.bytes.now output.new.typed }
+    ensures did { OnOutput 52 registers.old image.now cells.now output.old.bytes.now output.old.typed result registers.new output.new.bytes.now output.new.typed }
+    ensures same_reference { output.new.bytes.ghost_name ≡ output.old.bytes.ghost_name }
 {
     cells::need::<Data>(registers, 2)?;
     let n = count_of(cells::cell::<Data>(registers, cells, 0));
@@ -128,9 +131,10 @@ fn new_line(
     cells: &[u16; 128],
     output: &mut Output,
 ) -> Result<Progress, Fault>
-    ensures { OnOutput 53 registers.old image.now cells.now output.old.bytes.now output.old.typed result registers.new output.new.bytes.now output.new.typed }
+    ensures did { OnOutput 53 registers.old image.now cells.now output.old.bytes.now output.old.typed result registers.new output.new.bytes.now output.new.typed }
+    ensures same_reference { output.new.bytes.ghost_name ≡ output.old.bytes.ghost_name }
 {
-    let fitted = output.type_bytes(&[b'\r', b'\n']);
+    let fitted = output.type_bytes(b"\r\n");
     Ok(finish(registers, cells, 0, fitted))
 }
 
@@ -140,7 +144,8 @@ fn spaces(
     cells: &[u16; 128],
     output: &mut Output,
 ) -> Result<Progress, Fault>
-    ensures { OnOutput 54 registers.old image.now cells.now output.old.bytes.now output.old.typed result registers.new output.new.bytes.now output.new.typed }
+    ensures did { OnOutput 54 registers.old image.now cells.now output.old.bytes.now output.old.typed result registers.new output.new.bytes.now output.new.typed }
+    ensures same_reference { output.new.bytes.ghost_name ≡ output.old.bytes.ghost_name }
 {
     cells::need::<Data>(registers, 1)?;
     let n = count_of(cells::cell::<Data>(registers, cells, 0));
@@ -173,7 +178,8 @@ fn type_text(
     cells: &[u16; 128],
     output: &mut Output,
 ) -> Result<Progress, Fault>
-    ensures { OnOutput 105 registers.old image.now cells.now output.old.bytes.now output.old.typed result registers.new output.new.bytes.now output.new.typed }
+    ensures did { OnOutput 105 registers.old image.now cells.now output.old.bytes.now output.old.typed result registers.new output.new.bytes.now output.new.typed }
+    ensures same_reference { output.new.bytes.ghost_name ≡ output.old.bytes.ghost_name }
 {
     let n = text_length(registers, image)?;
     let from = usize::from(registers.seat.flow.ip) + 1;
@@ -193,7 +199,8 @@ pub fn typing_word(
     cells: &[u16; 128],
     output: &mut Output,
 ) -> Result<Progress, Fault>
-    ensures { OnOutput (typing_number word) registers.old image.now cells.now output.old.bytes.now output.old.typed result registers.new output.new.bytes.now output.new.typed }
+    ensures did { OnOutput (typing_number word) registers.old image.now cells.now output.old.bytes.now output.old.typed result registers.new output.new.bytes.now output.new.typed }
+    ensures same_reference { output.new.bytes.ghost_name ≡ output.old.bytes.ghost_name }
 {
     match word {
         TypingWord::Dot => number(registers, image, cells, output, true),

@@ -1,5 +1,5 @@
-// Vocabularies: the chain of them, from VOC-LINK down. A link of 0 ends it, as it lies in the image; here it becomes None. It is walked by a
-// loop, as a thread is: an iterator carries the same two values, and the place besides.
+// Vocabularies: the chain of them, from VOC-LINK down. A link of 0 ends it, as it lies in the image; here it becomes None. It is
+// walked by a loop, as a thread is.
 #![tactic(auto)]
 
 ghost use Rattle.std.specs.Prelude.{◌≡◌, ◌+◌, ◌<◌, ◌≤◌, ◌&&◌, IfOk, IfSome, nat_le};
