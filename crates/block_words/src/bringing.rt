@@ -3,6 +3,7 @@ ghost use Rattle.std.specs.Prelude.{◌≡◌, true, false, length, take, Some, 
 ghost use Rattle.definition.specs.Blocks.{brought, read_from, saved};
 ghost use Rattle.block_words.specs.Buffers.{Brings, holding, with_buffer};
 
+use definition::places::BUFFER;
 use definition::ranged::Registers;
 use definition::registers::Buffer;
 use fault::Fault;
@@ -49,7 +50,7 @@ pub(crate) fn write_out<S: Store>(
     let Some(n) = registers.shared.buffer.held else {
         return Ok(());
     };
-    store.write(n, image[33024..].first_chunk().unwrap(), place(registers))?;
+    store.write(n, image[BUFFER..].first_chunk().unwrap(), place(registers))?;
     assign(registers, fresh(n));
     Ok(())
 }
@@ -66,7 +67,7 @@ fn read_in<S: Store>(
     ensures seat { registers.new.seat ≡ registers.old.seat }
 {
     let at = place(registers);
-    let (_, rest) = image.split_at_mut(33024);
+    let (_, rest) = image.split_at_mut(BUFFER);
     store.read(n, rest.first_chunk_mut().unwrap(), at)?;
     assign(registers, fresh(n));
     Ok(())

@@ -4,6 +4,7 @@ ghost use Rattle.block_words.specs.Buffers.{block_number};
 ghost use Rattle.steps.specs.Does.{OnBlocks};
 
 use super::bringing::{assign, bring, write_out};
+use definition::places::BUFFER;
 use definition::ranged::Registers;
 use definition::registers::Buffer;
 use fault::{Fault, Reason};
@@ -22,7 +23,7 @@ pub enum BlockWord {
 fn buffer_address() -> u16
     ensures { result ≡ 33024 }
 {
-    33024
+    BUFFER as u16
 }
 
 fn block<S: Store>(

@@ -3,6 +3,7 @@
 
 pub mod clearing;
 pub mod free;
+pub mod places;
 pub mod ranged;
 pub mod registers;
 pub mod running;

@@ -76,8 +76,6 @@ impl Dictionary {
         ensures did { Did (with_room 2 told (dict_of self.old image.old) (appended (cell x) (dict_of self.old image.old))) (dict_of self.old image.old) result (dict_of self.new image.new) }
         ensures rest { Outside image.old image.new }
     {
-        self.room(2, told)?;
-        self.put_cell(image, x);
-        Ok(())
+        self.append(image, &x.to_le_bytes(), told)
     }
 }

@@ -4,6 +4,7 @@
 ghost use Rattle.std.specs.Prelude.{length, ◌≡◌};
 ghost use Rattle.example_lines.specs.Lines.{LinesStand, lines};
 
+// A function of its own, so that the count is proved here and not beside the laws.
 fn how_many() -> u8
     ensures { result ≡ length lines }
 {

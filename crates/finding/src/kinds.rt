@@ -1,7 +1,6 @@
 // The kind of the word just taken.
 ghost use Rattle.std.specs.Prelude.{◌≡◌, ◌+◌, ◌≤◌};
 ghost use Rattle.entries.specs.Entries.{is_immediate, token_of};
-ghost use Rattle.image.specs.Cells.{cell_at};
 ghost use Rattle.finding.specs.Finding.{Interpreting, KindIs};
 ghost use Rattle.finding.specs.Kinds.{kind_at};
 ghost use Rattle.image.specs.Views.{low_of};
@@ -14,6 +13,7 @@ use definition::ranged::Registers;
 use entries::Entries;
 use fault::{Fault, Reason};
 use numbers::read_number;
+use steps::base::base;
 use steps::faults::refusal;
 use texts::names::is_name;
 use texts::words::last_word;
@@ -30,13 +30,6 @@ fn word_at(registers: &Registers, image: &[u8; 65536], entry: u16) -> Word
     } else {
         Word::Plain(token)
     }
-}
-
-// BASE's cell.
-fn base(image: &[u8; 65536]) -> u16
-    ensures { result ≡ cell_at image.now 32768 }
-{
-    image::fetch(image, 32768)
 }
 
 // What the word just taken is: is it a name (5), is each link walked in order (6), is it found, or a number (7)?

@@ -1,6 +1,7 @@
 // Stack moves at cells and at marks.
 use stacks::{drop_top, pick, push, roll};
 
+// A pair as a mark is: these tests rest on the leaf crates alone.
 #[derive(Clone, Copy, PartialEq, Eq, Debug)]
 struct Mark {
     kind: u8,

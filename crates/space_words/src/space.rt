@@ -9,6 +9,7 @@ ghost use Rattle.steps.specs.Does.{OnSpace};
 
 use super::reaching::{put, reach};
 use super::words::MemoryWord;
+use definition::places::BASE;
 use definition::ranged::Registers;
 use fault::Fault;
 use steps::cells::{self, Data};
@@ -122,7 +123,7 @@ fn fill(
 fn set_base(image: &mut [u8; 65536], base: u16)
     ensures { image.new ≡ overwritten 32768 (cell base) image.old }
 {
-    image::store(image, 32768, base);
+    image::store(image, BASE, base);
 }
 
 // @ ! +! C@ C! CMOVE FILL DECIMAL HEX

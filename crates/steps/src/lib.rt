@@ -2,6 +2,7 @@
 // read or write, and registers hold no lent memory.
 #![tactic(auto)]
 
+pub mod base;
 pub mod cells;
 pub mod faults;
 pub mod inside;

@@ -11,6 +11,7 @@ use definition::ranged::Registers;
 use fault::{Fault, Reason};
 use steps::faults::refusal;
 
+// A function, so that the count is proved here and not beside the name.
 fn bytes_used(name: &Name) -> usize
     ensures { result ≡ name.now.count }
 {

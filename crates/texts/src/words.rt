@@ -3,13 +3,9 @@ ghost use Rattle.std.specs.Prelude.{◌≡◌, ◌+◌, ◌≤◌, min, MatchOpt
 ghost use Rattle.texts.specs.Texts.{NextIs, NoneLeft, TookWord, WordInside, read_to, text_in, text_length, text_start, word_in};
 
 use super::scanning::{rest_of, separators, word_length};
+use definition::places::{BUFFER, LINE};
 use definition::ranged::Registers;
 use definition::registers::LastWord;
-
-// Where the line lies in the image, and where the block buffer does.
-const LINE: usize = 128;
-
-const BUFFER: usize = 33024;
 
 // Where the text begins in the image.
 pub(crate) fn text_start(registers: &Registers) -> usize

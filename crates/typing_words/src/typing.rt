@@ -14,6 +14,7 @@ use super::words::TypingWord;
 use definition::ranged::Registers;
 use fault::{Fault, Reason};
 use space_words::reaching::reach;
+use steps::base::base;
 use steps::cells::{self, Data};
 use steps::faults::ask;
 use steps::inside::ask_inside;
@@ -35,7 +36,7 @@ fn finish(registers: &mut Registers, cells: &[u16; 128], n: usize, fitted: bool)
 fn base_of(registers: &Registers, image: &[u8; 65536]) -> Result<u16, Fault>
     ensures { IsAnswered result (λ b. (b ≡ cell_at image.now 32768) × (is_base b ≡ true) × (2 ≤ b) × (b ≤ 36)) (is_base (cell_at image.now 32768) ≡ false) BadBase registers.now.seat }
 {
-    let base = image::fetch(image, 32768);
+    let base = base(image);
     ask(registers, numbers::is_base(base), Reason::BadBase)?;
     Ok(base)
 }
@@ -163,7 +164,7 @@ fn text_length(registers: &Registers, image: &[u8; 65536]) -> Result<u8, Fault>
     Ok(n)
 }
 
-// IP goes behind a text of n bytes and its count byte.
+// IP goes behind a text of n bytes and its count byte. What it shares with going behind a cell is the addition alone.
 fn skip_text(registers: &mut Registers, n: u8)
     requires { registers.old.seat.flow.ip + n + 1 ≤ 32768 }
     ensures shared { registers.new.shared ≡ registers.old.shared }
