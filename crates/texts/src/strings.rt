@@ -17,7 +17,7 @@ fn in_time(from: usize, end: usize, length: usize, most: usize) -> bool
 }
 
 // Takes the text up to the next such byte, at most so many bytes: where it begins and ends in the image, which may be written while
-// the text is in use.
+// the text is in use. A pair, as its two ends go on separately into the image's calls.
 pub fn take_to(
     registers: &mut Registers,
     image: &[u8; 65536],

@@ -100,7 +100,7 @@ fn emit(
     Ok(finish(registers, cells, 1, fitted))
 }
 
-// How many bytes a signed count asks for: below 0 none.
+// How many bytes a signed count asks for: below 0 none. By `cast_signed`, `max` and `cast_unsigned` it is longer to read.
 fn count_of(x: u16) -> u16
     ensures { result ≡ counted x }
 {
