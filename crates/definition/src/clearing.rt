@@ -8,7 +8,6 @@ ghost use Rattle.definition.specs.View.{Lent, view_of};
 use super::ranged::Registers;
 use super::registers::Seat;
 
-// The open entry goes here as the dictionary's `give_up` lets it go: two lines, which both have of `kept_end`.
 impl Registers {
     // Stacks, marks and loads are emptied, compiling stops, the open entry is given up, and IP, BLK, >IN and the line's length become 0.
     // A step that faults leaves all else as it was before it, but for an updated buffer that it wrote out.

@@ -97,7 +97,7 @@ impl<'a> Entries<'a> {
         entry + 3 + self.name_length(entry)
     }
 
-    // Is an entry immediate? By division, as the definition reads the bit.
+    // Is an entry immediate?
     pub fn is_immediate(&self, entry: u16) -> bool
         requires { (256 ≤ entry) × (entry + 2 < length self.now) }
         ensures { result ≡ is_immediate self.now entry }

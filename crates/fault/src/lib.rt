@@ -66,7 +66,7 @@ pub struct Fault {
 }
 
 impl Place {
-    // Before a line's first word, and where there is no machine: a name that a Default has not.
+    // Before a line's first word, and where there is no machine.
     pub fn nowhere() -> Place
         ensures { result ≡ place_of 0 0 0 }
     {
