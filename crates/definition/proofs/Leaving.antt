@@ -1,5 +1,5 @@
 -- The view of cleared registers is the cleared view.
-use Rattle.std.proofs.Common.{◌≡◌, ℕ, ◌+◌, ◌-◌, ◌≤◌, Bool, true, false, cond, eqb, List, [], ◌++◌, take, drop, sym, refl, ap, ◌∙◌, subst, arith, take-take}
+use Rattle.std.proofs.Common.{◌≡◌, ℕ, ◌+◌, ◌-◌, ◌<◌, ◌≤◌, Bool, true, false, cond, eqb, List, [], ◌++◌, take, drop, sym, refl, ap, ◌∙◌, subst, arith, take-take}
 use lib.Seq.{take-append-add}
 use Rattle.std.proofs.lemmas.List.{drop-take}
 use Rattle.std.proofs.lemmas.Bool.Decides.{nat_tests}
@@ -9,11 +9,11 @@ use Rattle.image.specs.Views.{low_of}
 use Rattle.stacks.specs.Stack.{stack_of}
 use Rattle.definition.specs.declared.registers.Seat.{Seat}
 use Rattle.definition.specs.declared.registers.Shared.{Shared}
-use Rattle.definition.specs.Ranges.{settled, counted, resting}
+use Rattle.definition.specs.Ranges.{settled, resting}
 use Rattle.definition.specs.Run.{cleared}
 use Rattle.definition.specs.View.{Lent, view_of}
 
-pub settled_in : (s : Shared) → counted s ≤ s.ends.dp → settled s ≤ s.ends.dp
+pub settled_in : (s : Shared) → s.names.opened + 3 < s.ends.dp → settled s ≤ s.ends.dp
 settled_in s h = grind (arith, nat_tests)
 
 low_add : (k d : ℕ) (image : List ℕ) → 256 + k ≤ d → take (256 + k) (low_of d image) ≡ low_of (256 + k) image

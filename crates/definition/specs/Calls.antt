@@ -79,14 +79,14 @@ is_stopped Run.finished = false
 is_stopped Run.stopped = true
 is_stopped (Run.faulted f) = false
 
-abbrev after_line : Asked Machine → Called
+abbrev pub after_line : Asked Machine → Called
 after_line (refused why m) = record { reply = declined (fault_of why (told m)); busy = false; machine = m }
 after_line (given m) = record { reply = accepted; busy = true; machine = m }
 
 abbrev after_run : Report → Called
 after_run r = record { reply = ran r.end r.typed r.steps; busy = is_stopped r.end; machine = r.machine }
 
-abbrev after_lookup : Machine → Asked (Option ℕ) → Called
+abbrev pub after_lookup : Machine → Asked (Option ℕ) → Called
 after_lookup m (refused why m') = record { reply = declined (fault_of why (told m')); busy = false; machine = m }
 after_lookup m (given e) = record { reply = found e; busy = false; machine = m }
 

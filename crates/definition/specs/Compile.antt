@@ -14,6 +14,7 @@ use Rattle.definition.specs.Kernel.{CompilingWord}
 use Rattle.definition.specs.Boot.{kernel_token}
 use Rattle.definition.specs.Stacks.{pick, nth, popped, has_cells}
 use Rattle.definition.specs.Define.{fits}
+use Rattle.definition.specs.Flow.{in_dictionary}
 
 -- the bytes join the open definition
 abbrev pub appends : List ℕ → Machine → Asked After
@@ -31,35 +32,41 @@ literal_of n = token 98 ++ cell n
 
 -- marks
 
-abbrev kind_number : Kind → ℕ
+abbrev pub kind_number : Kind → ℕ
 kind_number If = 0
 kind_number Begin = 1
 kind_number While = 2
 kind_number Do = 3
 
 -- are the top marks of these kinds?
-abbrev are_marks : List Kind → List Mark → Bool
+abbrev pub are_marks : List Kind → List Mark → Bool
 are_marks [] ms = true
 are_marks (k ∷ ks) [] = false
 are_marks (k ∷ ks) (x ∷ ms) = kind_number k == kind_number x.kind && are_marks ks ms
 
-abbrev mark : Kind → ℕ → Mark
+abbrev pub mark : Kind → ℕ → Mark
 mark k a = record { kind = k; address = a }
 
 -- the address of the k-th mark, 0 the top
-abbrev mark_at : ℕ → Machine → ℕ
+abbrev pub mark_at : ℕ → Machine → ℕ
 mark_at k m = (pick (mark If 0) k m.stacks.marks).address
 
 -- the cells at these addresses learn DP
-abbrev resolved : List ℕ → Dict → Dict
+abbrev pub resolved : List ℕ → Dict → Dict
 resolved [] D = D
 resolved (a ∷ rest) D = resolved rest (patched a (length D.low) D)
 
+-- do the cells at these addresses lie in the dictionary?
+abbrev pub are_cells : List ℕ → Machine → Bool
+are_cells [] m = true
+are_cells (a ∷ rest) m = in_dictionary a 2 m && are_cells rest m
+
 -- a word of a control structure: the marks it takes, the bytes it appends, the cells that learn the address behind them, and the marks it leaves
-abbrev structured : List Kind → List ℕ → List ℕ → List Mark → Machine → Asked After
+abbrev pub structured : List Kind → List ℕ → List ℕ → List Mark → Machine → Asked After
 structured kinds bs known new m = do
   let marks = new ++ drop (length kinds) m.stacks.marks
   ask m BadMark (are_marks kinds m.stacks.marks)
+  ask m BadMark (are_cells known m)
   ask m BadMark (nat_le (length marks) 32)
   ask m DictionaryFull (fits (length bs) m)
   quietly (with_marks marks (changed (λ D. resolved known (appended bs D)) m))

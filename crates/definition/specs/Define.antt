@@ -1,5 +1,5 @@
 -- The defining words, and FORGET.
-use Rattle.std.specs.Prelude.{ℕ, ◌+◌, ◌-◌, Bool, true, false, ◌&&◌, List, ◌++◌, length, take, ◌==◌, nat_le}
+use Rattle.std.specs.Prelude.{ℕ, ◌+◌, ◌-◌, Bool, true, false, ◌&&◌, List, ◌++◌, length, take, ◌==◌, nat_le, if◌then◌else◌}
 use Rattle.fault.specs.declared.Reason.TheVariants.{StackUnderflow, BadMark, DictionaryFull, DataFull, BadToken, BelowFence}
 use Rattle.image.specs.Cells.{cell}
 use Rattle.entries.specs.Entries.{spelled, body_of}
@@ -11,21 +11,22 @@ use Rattle.definition.specs.Kernel
 use Rattle.definition.specs.Kernel.{DefiningWord}
 use Rattle.definition.specs.Boot.{fence, kernel_token}
 use Rattle.definition.specs.Stacks.{nth, popped, has_cells}
+use Rattle.definition.specs.Space.{has_newest}
 
 -- is there dictionary space for n bytes?
 abbrev pub fits : ℕ → Machine → Bool
 fits n m = nat_le (dp m + n) 32768
 
 -- the bytes of an entry of this name, up to its first parameter cell
-abbrev entry_size : List ℕ → ℕ
+abbrev pub entry_size : List ℕ → ℕ
 entry_size name = 9 + length name
 
 -- the entry that begins next is the news
-abbrev beginning : Machine → Machine → Asked After
+abbrev pub beginning : Machine → Machine → Asked After
 beginning m m' = telling (began (dp m + 2)) m'
 
 -- an entry with one more parameter cell, which joins at once
-abbrev with_extra : List ℕ → ℕ → ℕ → Machine → Machine
+abbrev pub with_extra : List ℕ → ℕ → ℕ → Machine → Machine
 with_extra name code x m = changed (defined (blk m) 0 (spelled name) code (cell x)) m
 
 -- The name, or the entry that FORGET found, was taken before. `;` appends EXIT; VARIABLE is CREATE, then 2 ALLOT.
@@ -52,7 +53,7 @@ do_defining Kernel.vocabulary name w m = do
   ask m DictionaryFull (fits (entry_size name + 10) m)
   beginning m (changed (vocabulary_defined (blk m) (spelled name)) m)
 do_defining Kernel.definitions name w m = quietly (changed (with_current m.order.context) m)
-do_defining Kernel.immediate name w m = quietly (changed immediate_marked m)
+do_defining Kernel.immediate name w m = quietly (if has_newest m then changed immediate_marked m else m)
 do_defining Kernel.forget name w m = do
   let body = body_of m.low w
   ask m BadToken (nat_le 34048 body && nat_le body (here m))

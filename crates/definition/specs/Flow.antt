@@ -10,6 +10,7 @@ use Rattle.numbers.specs.Cells.{wrap, minus, is_negative, magnitude}
 use Rattle.definition.specs.Kernel
 use Rattle.definition.specs.Kernel.{ReturnsWord, InlineWord}
 use Rattle.definition.specs.Stacks.{nth, popped, pushed, has_cells, has_room, nth_return, popped_returns, pushed_returns, has_returns, has_return_room, go_to}
+use Rattle.definition.specs.Space.{has_newest}
 use Rattle.definition.specs.Define.{fits}
 
 -- are the n bytes at a in the dictionary?
@@ -27,7 +28,7 @@ abbrev pub past : Machine → Machine
 past m = with_ip (ip m + 2) m
 
 -- EXIT pops IP
-abbrev exited : Machine → Machine
+abbrev pub exited : Machine → Machine
 exited m = go_to (nth_return 0 m) (popped_returns 1 m)
 
 -- A loop keeps, from the top: index, limit, the address behind it. With s = (index - limit) modulo 65,536, adding n ends it if s + n is above 65,535 or below 0.
@@ -86,7 +87,7 @@ do_inline Kernel.plus_loop_r m = ask m StackUnderflow (has_cells 1 m) >> looped 
 do_inline Kernel.semicolon_code m = do
   ask m ReturnUnderflow (has_returns 1 m)
   let code = cell_at m.low (token_of m.low m.names.newest)
-  ask m NotCreated (nat_le (first_at m.low m.names.newest + 4) (dp m) && (code == 202 || code == 205))
+  ask m NotCreated (has_newest m && (nat_le (first_at m.low m.names.newest + 4) (dp m) && (code == 202 || code == 205)))
   quietly (exited (changed (does_set (ip m)) m))
 do_inline Kernel.type_text m = do
   ask m BadToken (in_dictionary (ip m) 1 m)

@@ -1,6 +1,7 @@
 -- What the registers' ranges speak of, and a seat at rest.
-use Rattle.std.specs.Prelude.{ℕ, ◌+◌, ◌-◌, false, cond, List, [], ◌∷◌, ◌==◌, slice_index_or}
+use Rattle.std.specs.Prelude.{ℕ, false, List, [], ◌∷◌, slice_index_or}
 use Rattle.dictionary.specs.declared.registers.SearchOrder.{SearchOrder}
+use Rattle.dictionary.specs.Kept.{kept_end}
 use Rattle.definition.specs.declared.registers.LastWord.{LastWord}
 use Rattle.definition.specs.declared.registers.Seat.{Seat}
 use Rattle.definition.specs.declared.registers.Shared.{Shared}
@@ -9,11 +10,7 @@ use Rattle.definition.specs.declared.registers.Position.{Position}
 
 -- where DP goes back to if a step faults: the open entry's beginning, or DP
 abbrev pub settled : Shared → ℕ
-settled s = cond (s.names.opened == 0) s.ends.dp (s.names.opened - 2)
-
--- behind the open entry's count byte, if there is one
-abbrev pub counted : Shared → ℕ
-counted s = cond (s.names.opened == 0) 0 (s.names.opened + 3)
+settled s = kept_end s.ends.dp s.names.opened
 
 -- the eight loads in their order
 abbrev pub eight : Loads → List Position

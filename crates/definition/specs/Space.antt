@@ -3,7 +3,8 @@ use Rattle.std.specs.Prelude.{ℕ, zero, suc, ◌+◌, ◌-◌, ◌%◌, max, Bo
 use Rattle.fault.specs.declared.Reason.TheVariants.{StackUnderflow, OutOfReach, BadBase, DataFull}
 use Rattle.image.specs.Cells.{at, cell, cell_at, zeros}
 use Rattle.entries.specs.Entries.{body_of}
-use Rattle.definition.specs.Machine.{Machine, with_high, here}
+use Rattle.dictionary.specs.Trim.{ordered}
+use Rattle.definition.specs.Machine.{Machine, with_high, dp, here}
 use Rattle.definition.specs.Asked.{Asked, ask, ◌>>◌, After, quietly, typing}
 use Rattle.numbers.specs.Cells.{wrap, is_negative, magnitude}
 use Rattle.numbers.specs.Text.{is_base, signed_text, unsigned_text}
@@ -22,7 +23,7 @@ abbrev fetched_byte : ℕ → Machine → ℕ
 fetched_byte a m = at m.high (a - 32768)
 
 -- the bytes from a on replaced
-abbrev put : List ℕ → ℕ → List ℕ → List ℕ
+abbrev pub put : List ℕ → ℕ → List ℕ → List ℕ
 put high a new = take (a - 32768) high ++ (new ++ drop (a - 32768 + length new) high)
 
 abbrev pub stored : ℕ → List ℕ → Machine → Machine
@@ -33,7 +34,7 @@ abbrev bytes : ℕ → ℕ → List ℕ
 bytes n x = take n (cell x)
 
 -- one byte after the other, the lowest address first
-abbrev moved : ℕ → ℕ → ℕ → List ℕ → List ℕ
+abbrev pub moved : ℕ → ℕ → ℕ → List ℕ → List ℕ
 moved zero from to high = high
 moved (suc n) from to high = moved n (from + 1) (to + 1) (put high to (at high (from - 32768) ∷ []))
 
@@ -48,7 +49,15 @@ moved_here n m = if is_negative n then here m - magnitude n else here m + n
 abbrev resized : ℕ → List ℕ → List ℕ
 resized n high = take n high ++ zeros (n - length high)
 
--- CMOVE asks for its source, then its target; ALLOT takes HERE below neither 34,048 nor the newest entry's first parameter cell
+-- does the newest entry lie whole in the dictionary?
+abbrev pub has_newest : Machine → Bool
+has_newest m = ordered m.low (dp m) m.names.newest
+
+-- ALLOT takes HERE below neither 34,048 nor the newest entry's first parameter cell
+abbrev pub lowest : Machine → ℕ
+lowest m = if has_newest m then max 34048 (body_of m.low m.names.newest) else 34048
+
+-- CMOVE asks for its source, then its target
 abbrev pub do_space : SpaceWord → Machine → Asked After
 do_space (Kernel.fetches n) m = do
   ask m StackUnderflow (has_cells 1 m)
@@ -75,7 +84,7 @@ do_space (Kernel.set_base n) m = quietly (stored 32768 (cell n) m)
 do_space Kernel.allot m = do
   ask m StackUnderflow (has_cells 1 m)
   let a = moved_here (nth 0 m) m
-  ask m DataFull (nat_le (max 34048 (body_of m.low m.names.newest)) a && nat_le a 65535)
+  ask m DataFull (nat_le (lowest m) a && nat_le a 65535)
   quietly (with_high (resized (a - 32768) m.high) (popped 1 m))
 do_space (Kernel.appends n) m = do
   ask m StackUnderflow (has_cells 1 m)

@@ -42,7 +42,7 @@ next_word m =
 abbrev pub no_word_left : Machine → Bool
 no_word_left m = length (next_word m).bytes == 0
 
-abbrev all_within : ℕ → ℕ → List ℕ → Bool
+abbrev pub all_within : ℕ → ℕ → List ℕ → Bool
 all_within l h [] = true
 all_within l h (b ∷ bs) = nat_le l b && nat_le b h && all_within l h bs
 
@@ -59,7 +59,7 @@ take_name m = do
   given t
 
 -- the bytes before the first b, if it follows
-abbrev before : ℕ → List ℕ → Option (List ℕ)
+abbrev pub before : ℕ → List ℕ → Option (List ℕ)
 before b [] = None
 before b (x ∷ xs) = elim (x == b) [ true ↦ Some [] | false ↦ elim (before b xs) [ None ↦ None | Some ys ↦ Some (x ∷ ys) ] ]
 

@@ -7,6 +7,7 @@ use Rattle.dictionary.specs.Dict.{with_context}
 use Rattle.entries.specs.Search.{search_in}
 use Rattle.dictionary.specs.Search.{searched}
 use Rattle.dictionary.specs.Trim.{can_forget, is_chain, on_chain}
+use Rattle.vocabularies.specs.Seeks.{stays}
 use Rattle.definition.specs.Machine.{Machine, ip, dict_of, changed}
 use Rattle.definition.specs.Asked.{Asked, refused, given, ask, ◌>>=◌, ◌>>◌, After, quietly}
 use Rattle.definition.specs.Text.{Taken, take_name, take_to, ask_found, ask_there}
@@ -26,7 +27,7 @@ pub record Argument : Type 0 where
   pub bytes : List ℕ
   pub entry : ℕ
 
-abbrev argument : Taken → ℕ → Argument
+abbrev pub argument : Taken → ℕ → Argument
 argument t e = record { machine = t.machine; bytes = t.bytes; entry = e }
 
 -- under FENCE nothing more is walked
@@ -58,7 +59,7 @@ taken Kernel.to_quote m = do
   given (argument t 0)
 
 -- the state questions
-abbrev state_asked : Asks → Machine → Asked (Unit {0})
+abbrev pub state_asked : Asks → Machine → Asked (Unit {0})
 state_asked Kernel.has_open m = ask m NoDefinition (not (m.names.opened == 0))
 state_asked Kernel.none_open m = ask m DefinitionOpen (m.names.opened == 0)
 state_asked Kernel.ip_zero m = ask m WordRunning (ip m == 0)
@@ -104,33 +105,33 @@ row_of code =
 -- The other codes, each with its token t: the cells that it reads lie in the dictionary.
 
 -- 201 pushes IP and enters its tokens
-abbrev colon_word : ℕ → Machine → Asked After
+abbrev pub colon_word : ℕ → Machine → Asked After
 colon_word t m = do
   ask m ReturnOverflow (has_return_room 1 m)
   quietly (go_to (t + 4) (pushed_returns (ip m ∷ []) m))
 
 -- 202 pushes its body
-abbrev created_word : ℕ → Machine → Asked After
+abbrev pub created_word : ℕ → Machine → Asked After
 created_word t m = do
   ask m BadToken (in_dictionary t 4 m)
   replaced 0 (cell_at m.low (t + 2) ∷ []) m
 
 -- 203 pushes its value
-abbrev constant_word : ℕ → Machine → Asked After
+abbrev pub constant_word : ℕ → Machine → Asked After
 constant_word t m = do
   ask m BadToken (in_dictionary t 6 m)
   replaced 0 (cell_at m.low (t + 4) ∷ []) m
 
--- 204 becomes CONTEXT, if it is on the vocabulary chain
-abbrev vocabulary_word : ℕ → Machine → Asked After
+-- 204 becomes CONTEXT, if it is on the vocabulary chain, and stays where the open entry is given up
+abbrev pub vocabulary_word : ℕ → Machine → Asked After
 vocabulary_word t m = do
   ask m BadToken (in_dictionary t 14 m)
   ask m BrokenLink (is_chain (dict_of m))
-  ask m BadToken (on_chain (t + 4) (dict_of m))
+  ask m BadToken (on_chain (t + 4) (dict_of m) && stays (t + 4) (dict_of m))
   quietly (changed (with_context (t + 4)) m)
 
 -- 205 pushes its body, then enters its DOES> code
-abbrev does_word : ℕ → Machine → Asked After
+abbrev pub does_word : ℕ → Machine → Asked After
 does_word t m = do
   ask m BadToken (in_dictionary t 6 m)
   ask m StackOverflow (has_room 1 m)

@@ -1,6 +1,6 @@
 // The registers with their pointers in range and their depths within the stacks.
 ghost use Rattle.std.specs.Prelude.{ℕ, ◌+◌, ◌<◌, ◌≤◌};
-ghost use Rattle.definition.specs.Ranges.{counted, load_at, settled};
+ghost use Rattle.definition.specs.Ranges.{load_at, settled};
 
 use super::registers::{Seat, Shared};
 
@@ -8,11 +8,15 @@ use super::registers::{Seat, Shared};
 pub struct Registers {
     pub shared: Shared,
     pub seat: Seat,
-    // DP is 256 to 32,768, also without the open entry, whose count byte lies below it; so does the newest entry's.
-    ghost bottom: { 256 ≤ settled shared },
-    ghost open: { counted shared ≤ shared.ends.dp },
+    // DP is 280 to 32,768, also without the open entry, whose name begins below it.
+    ghost bottom: { 280 ≤ settled shared },
+    ghost open: { shared.names.opened + 3 < shared.ends.dp },
     ghost top: { shared.ends.dp ≤ 32768 },
-    ghost newest: { shared.names.newest + 2 < settled shared },
+    // CONTEXT and CURRENT lie in the dictionary, also without the open entry.
+    ghost context_low: { 270 ≤ seat.order.context },
+    ghost context_high: { seat.order.context + 10 ≤ settled shared },
+    ghost current_low: { 270 ≤ seat.order.current },
+    ghost current_high: { seat.order.current + 10 ≤ settled shared },
     // HERE is 34,048 to 65,535.
     ghost space: { 34048 ≤ shared.ends.here },
     ghost limit: { shared.ends.here ≤ 65535 },

@@ -4,7 +4,6 @@ ghost use Rattle.entries.specs.Entries.{is_immediate, token_of};
 ghost use Rattle.finding.specs.Finding.{Interpreting, KindIs};
 ghost use Rattle.finding.specs.Kinds.{kind_at};
 ghost use Rattle.image.specs.Views.{low_of};
-ghost use Rattle.seat_dictionary.specs.Parts.{HoldsDictionary};
 ghost use Rattle.texts.specs.Texts.{WordInside};
 
 use super::searching::search;
@@ -34,8 +33,7 @@ fn word_at(registers: &Registers, image: &[u8; 65536], entry: u16) -> Word
 
 // What the word just taken is: is it a name (5), is each link walked in order (6), is it found, or a number (7)?
 pub fn word_of(registers: &Registers, image: &[u8; 65536]) -> Result<Word, Fault>
-    requires inside { WordInside registers.now.seat }
-    requires holds { HoldsDictionary registers.now }
+    requires { WordInside registers.now.seat }
     ensures kind { KindIs registers.now image.now result }
     ensures whole { Interpreting }
 {

@@ -6,7 +6,6 @@ ghost use Rattle.definition.specs.declared.registers.Mark.{Mark};
 ghost use Rattle.dictionary.specs.Search.{searched};
 ghost use Rattle.entries.specs.Threads.{Ascii};
 ghost use Rattle.finding.specs.Finding.{Answers, EntryInside};
-ghost use Rattle.seat_dictionary.specs.Parts.{HoldsDictionary};
 ghost use Rattle.steps.specs.Does.{seen};
 ghost use Rattle.store.specs.Meaning.{Meaning};
 
@@ -17,8 +16,7 @@ use steps::faults::place;
 
 // The entry of a name in the search order, or nothing.
 pub fn search(registers: &Registers, image: &[u8; 65536], name: &[u8]) -> Result<Option<u16>, Fault>
-    requires named { (1 ≤ length name.now) × (Ascii name.now) }
-    requires holds { HoldsDictionary registers.now }
+    requires { (1 ≤ length name.now) × (Ascii name.now) }
     ensures found { (c t : List ℕ) (k : List Mark) (s : Meaning) → Answers (ask_found (seen registers.now image.now c t k s) (searched (dict_of (seen registers.now image.now c t k s)) name.now)) result (seen registers.now image.now c t k s) }
     ensures inside { EntryInside registers.now.shared.ends.dp result }
 {

@@ -1,17 +1,17 @@
 -- The ends of ALLOT.
 use Rattle.std.proofs.Common.{◌≡◌, ℕ, ◌+◌, ◌-◌, ◌<◌, ◌≤◌, Bool, true, false, leb, ◌⊎◌, List, ◌++◌, length, get_or, take, drop, replicate, Ok, Err, sym, refl, ap, ◌∙◌, inl, inr, arith, take_all, take-take}
-use Rattle.std.proofs.lemmas.List.{append-nil, length-replicate, get_or-replicate, get_or_append_left, get_or_past}
+use Rattle.std.proofs.lemmas.List.{append-nil, length-replicate}
 use Rattle.std.proofs.lemmas.Bool.Decides.{leb_tells}
 use Rattle.fault.specs.declared.Fault.{Fault}
 use Rattle.fault.specs.declared.Reason.TheVariants.{StackUnderflow, DataFull}
 use Rattle.fault.specs.Numbers.{fault_of}
 use Rattle.store.specs.Meaning.{Meaning}
 use Rattle.stacks.specs.Stack.{stack_of}
-use Rattle.image.specs.Cells.{at, zeros}
+use Rattle.image.specs.Cells.{zeros}
 use Rattle.image.specs.Views.{low_of, high_of, line_of}
 use Rattle.image.specs.Writes.{overwritten}
 use Rattle.image.proofs.Overwriting.{overwritten_none, take-before}
-use Rattle.image.proofs.Laws.{length_low, length_high, low_kept, line_kept, high_grown}
+use Rattle.image.proofs.Laws.{length_high, low_kept, line_kept, high_grown}
 use Rattle.definition.specs.declared.registers.Mark.{Mark}
 use Rattle.definition.specs.declared.registers.Seat.{Seat}
 use Rattle.definition.specs.declared.ranged.Registers.{Registers}
@@ -29,30 +29,6 @@ use Rattle.space_words.proofs.Written.{built, here_is}
 use Rattle.growing_words.specs.Numbers.{with_here}
 use Rattle.growing_words.specs.Allotting.{moved_by, lowest_of, allowed}
 use Rattle.growing_words.proofs.Appending.{deep, end}
-
-le_unless : (b a : ℕ) → (a < b → ⊥) → b ≤ a
-le_unless b a h = by (leb_tells b a)
-  where
-    by : ((leb b a ≡ true) × (b ≤ a)) ⊎ ((leb b a ≡ false) × (a < b)) → b ≤ a
-    by (inl q) = q.1
-    by (inr q) = absurd (h q.1)
-
--- a byte that lies in no dictionary counts as 0
-byte_before : (dp a : ℕ) (xs : List ℕ) → a < 256 → at (low_of dp xs) a ≡ 0
-unfolding low_of
-byte_before dp a xs h =
-    let z : length (zeros 256) ≡ 256 = length-replicate {A = ℕ} 256 0 in
-    get_or_append_left (zeros 256) (drop 256 (take dp xs)) 0 a (omega arith) ∙ get_or-replicate 256 a 0 0 h
-
-byte_behind : (dp a : ℕ) (xs : List ℕ) → 256 ≤ dp → dp ≤ length xs → dp ≤ a → at (low_of dp xs) a ≡ 0
-byte_behind dp a xs b l h = get_or_past (low_of dp xs) a 0 (omega (arith, length_low dp xs b l))
-
-pub byte_outside : (dp a : ℕ) (xs : List ℕ) → 256 ≤ dp → dp ≤ length xs → (256 ≤ a → a < dp → ⊥) → at (low_of dp xs) a ≡ 0
-byte_outside dp a xs b l out = by (leb_tells 256 a)
-  where
-    by : ((leb 256 a ≡ true) × (256 ≤ a)) ⊎ ((leb 256 a ≡ false) × (a < 256)) → at (low_of dp xs) a ≡ 0
-    by (inl q) = byte_behind dp a xs b l (le_unless dp a (out q.1))
-    by (inr q) = byte_before dp a xs q.1
 
 abbrev low_in : Registers → List ℕ → List ℕ
 low_in r i = low_of r.shared.ends.dp i

@@ -11,42 +11,23 @@ ghost use Rattle.steps.specs.Seats.{IsAnswered};
 
 use definition::ranged::Registers;
 use dictionary::registers::DATA_SPACE;
+use entries::Entries;
 use fault::{Fault, Reason};
 use steps::cells::{self, Data};
 use steps::faults::refusal;
+use steps::inside::has_newest;
 
-// A byte of the dictionary; what does not lie in it counts as 0. Not by `Entries`: the newest entry of registers from elsewhere may
-// lie outside.
-fn byte_or_zero(image: &[u8; 65536], dp: u16, a: u16) -> u8
-    requires { 256 ≤ dp }
-    ensures { result ≡ at (low_of dp image.now) a }
-{
-    if (256..dp).contains(&a) {
-        image[usize::from(a)]
-    } else {
-        0
-    }
-}
-
-// A cell of the dictionary, of such bytes.
-fn cell_or_zero(image: &[u8; 65536], dp: u16, a: u16) -> u16
-    requires bottom { 256 ≤ dp }
-    requires inside { a < 65535 }
-    ensures { result ≡ cell_at (low_of dp image.now) a }
-{
-    u16::from_le_bytes([byte_or_zero(image, dp, a), byte_or_zero(image, dp, a + 1)])
-}
-
-// The lowest that HERE may go: the newest entry's first parameter cell, and not below 34,048.
+// The lowest that HERE may go: where data space ended when the newest entry began, and not below 34,048.
 fn lowest(registers: &Registers, image: &[u8; 65536]) -> u16
     ensures value { result ≡ lowest_of (low_of registers.now.shared.ends.dp image.now) registers.now.shared.names.newest }
     ensures low { 34048 ≤ result }
 {
-    let dp = registers.shared.ends.dp;
+    if !has_newest(registers, image) {
+        return DATA_SPACE;
+    }
     let newest = registers.shared.names.newest;
-    let length = byte_or_zero(image, dp, newest + 2) % 32;
-    let first = newest + 5 + u16::from(length);
-    DATA_SPACE.max(cell_or_zero(image, dp, first))
+    let entries = Entries::new(image, registers.shared.ends.dp);
+    DATA_SPACE.max(entries.cell(entries.first_parameter(newest)))
 }
 
 // Where HERE goes, if it may.

@@ -9,11 +9,10 @@ use Rattle.definition.specs.Asked.{Asked, ask, ◌>>=◌, ◌>>◌}
 use Rattle.definition.specs.Run as running
 use Rattle.definition.specs.Run.{Report}
 use Rattle.definition.specs.Calls
-use Rattle.definition.specs.Calls.{called, lined, lookup_asked}
+use Rattle.definition.specs.Calls.{called, lined, after_line, after_lookup, lookup_asked}
 use Rattle.definition.specs.Laws.{Steps, Ending, spent, full, done, fault}
 use Rattle.definition.proofs.Turns.{run_outcome}
 use Rattle.step_changes.specs.Laws.{Moment, goes, finishes, faults, given, aborts, History, here, after, CallsInMoments}
-use Rattle.step_changes.proofs.Restated.{after_line, after_lookup}
 
 -- faultless steps, and what comes behind them
 

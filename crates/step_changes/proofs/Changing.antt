@@ -22,7 +22,7 @@ use Rattle.step_changes.specs.Steady.{InOpen, Steady}
 use Rattle.step_changes.specs.Laws.{Quietly, stays, and_then}
 use Rattle.step_changes.proofs.Known.{known}
 use Rattle.step_changes.proofs.Leading.{Leads, leads_ask}
-use Rattle.step_changes.proofs.Restated.{resolved}
+use Rattle.definition.specs.Compile.{resolved}
 
 pub run_quietly : {Z D E : Dict} → Run Z D → Quietly D E → Run Z E
 run_quietly r stays = r

@@ -18,14 +18,13 @@ use Rattle.definition.specs.Kernel.{CompilingWord}
 use Rattle.definition.specs.Boot.{kernel_token}
 use Rattle.definition.specs.Stacks.{nth, popped, has_cells}
 use Rattle.definition.specs.Define.{fits}
-use Rattle.definition.specs.Compile.{token, literal_of, do_compiling}
+use Rattle.definition.specs.Compile.{token, literal_of, kind_number, are_marks, mark, mark_at, resolved, are_cells, structured, do_compiling}
 use Rattle.step_changes.specs.Steady.{InOpen, mark_size, Steady}
 use Rattle.step_changes.specs.Laws.{stays}
 use Rattle.step_changes.proofs.Known.{known}
 use Rattle.step_changes.proofs.Ranges.{bytes_none, bytes_more, bytes_cell, length-cell}
 use Rattle.step_changes.proofs.Leading.{Leads, leads_ask, nth_cell, with_popped}
 use Rattle.step_changes.proofs.Changing.{change_leads, with_compiling_lem, grown_open, grown_append, Patchable, appended_quietly, resolved_quietly, append_leads, run_quietly, quietly_then, grown_then}
-use Rattle.step_changes.proofs.Restated.{kind_number, are_marks, mark, mark_at, resolved, structured}
 
 -- the marks that a word takes lie in the open entry
 
@@ -92,7 +91,7 @@ module _ (m : Machine) (s : Steady m) (o : m.names.opened ≢ 0) where
       let ms = m.stacks.marks in
       let D = dict_of m in
       let left = new ++ drop (length kinds) ms in
-      leads_ask _ _ _ (are_marks kinds ms) _ (λ h. leads_ask _ _ _ (leb (length left) 32) _ (λ i. leads_ask _ _ _ (fits (length bs) m) _ (λ f.
+      leads_ask _ _ _ (are_marks kinds ms) _ (λ h. leads_ask _ _ _ (are_cells cells m) _ (λ c. leads_ask _ _ _ (leb (length left) 32) _ (λ i. leads_ask _ _ _ (fits (length bs) m) _ (λ f.
       let q = appended_quietly D s.came o bs b (leb-true _ 32768 f) in
       let g = grown_append D s.came o bs in
       let r = resolved_quietly cells (appended bs D) (run_quietly s.came q) o (p h).0 in
@@ -101,7 +100,7 @@ module _ (m : Machine) (s : Steady m) (o : m.names.opened ≢ 0) where
       change_leads m s (λ D. resolved cells (appended bs D)) left gone.here (quietly_then q r.0) (λ c z. o (sym gone.opened ∙ z))
       (All-append (InOpen E) new (drop (length kinds) ms)
       (All-weaker (MarkInside (appended bs D)) (InOpen E) (λ k i. grown_open r.1 k (record { is_open = o; above = i.0; below = i.1 })) new (p h).1)
-      (All-weaker (InOpen D) (InOpen E) (grown_open gone) (drop (length kinds) ms) (All-drop (InOpen D) (length kinds) ms s.marks))))))
+      (All-weaker (InOpen D) (InOpen E) (grown_open gone) (drop (length kinds) ms) (All-drop (InOpen D) (length kinds) ms s.marks)))))))
 
   -- the mark that a word leaves at its branch cell
   new_mark : (x y : ℕ) → (first_at (appended (cell x ++ cell y) (dict_of m)).low m.names.opened + 2 ≤ machine.dp m + 2) × (machine.dp m + 2 + 2 ≤ dp (appended (cell x ++ cell y) (dict_of m)))

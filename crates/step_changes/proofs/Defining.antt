@@ -19,22 +19,22 @@ use Rattle.forgetting.proofs.Trims.{append-bytes}
 use Rattle.forgetting.proofs.Booting.{boot_long}
 use Rattle.definition.specs.Machine.{Machine, dp, here, blk, with_high, with_compiling, changed, dict_of}
 use Rattle.definition.specs.Asked.{forgot}
-use Rattle.definition.specs.Text.{is_name}
+use Rattle.definition.specs.Text.{all_within, is_name}
 use Rattle.definition.specs.Kernel
 use Rattle.definition.specs.Kernel.{DefiningWord}
 use Rattle.definition.specs.Boot as boots
 use Rattle.definition.specs.Boot.{kernel_token}
 use Rattle.definition.specs.Stacks.{nth, popped, has_cells}
+use Rattle.definition.specs.Space.{has_newest}
 use Rattle.definition.specs.Define.{fits, do_defining}
 use Rattle.step_changes.specs.Steady.{InOpen, Steady}
 use Rattle.step_changes.specs.Laws.{Quietly, stays, and_then, Begins, Turns}
 use Rattle.step_changes.proofs.Known.{known}
 use Rattle.step_changes.proofs.Ranges.{bytes_none, bytes_more, bytes_cell, bytes_take, bytes_replicate, length-cell}
 use Rattle.step_changes.proofs.Leading.{Leads, leads_ask, nth_cell, with_popped}
-use Rattle.step_changes.proofs.Plain.{low_cell}
+use Rattle.step_changes.proofs.Plain.{quiet_if, low_cell}
 use Rattle.step_changes.proofs.Spacing.{here_leads}
 use Rattle.step_changes.proofs.Changing.{no_marks, same_changed, with_change, change_leads, with_compiling_lem, appended_quietly}
-use Rattle.step_changes.proofs.Restated.{all_within}
 
 -- a name's bytes as its entry holds them
 
@@ -216,7 +216,7 @@ module _ (m : Machine) (s : Steady m) where
       leads_ask _ _ _ (has_cells 1 m) _ (λ c. leads_ask _ _ _ (fits (9 + length name + 2) m) _ (λ h. define_leads (popped 1 m) (with_popped m s 1) k.0 name (named name k.1) 203 (nth 0 m) (lit< tt) (nth_cell m s 0) (leb-true _ 32768 h)))
   defining_leads Kernel.vocabulary name w k = leads_ask _ _ _ (fits (9 + length name + 10) m) _ (λ h. vocabulary_leads m s k.0 name (named name k.1) (leb-true _ 32768 h))
   defining_leads Kernel.definitions name w k = definitions_leads k
-  defining_leads Kernel.immediate name w k = immediate_leads k
+  defining_leads Kernel.immediate name w k = quiet_if m s (has_newest m) (changed immediate_marked m) m (immediate_leads k) (stays, s)
   defining_leads Kernel.forget name w k =
       let body = body_of m.low w in
       leads_ask _ _ _ (leb 34048 body && leb body (here m)) _ (λ g. leads_ask _ _ _ (leb boots.fence w) _ (λ f.

@@ -7,6 +7,7 @@ use Rattle.entries.specs.Entries.{first_at, token_of}
 use Rattle.dictionary.specs.Dict.{appended, does_set, with_context}
 use Rattle.dictionary.specs.Trim.{chain_of, is_chain, on_chain, member}
 use Rattle.numbers.specs.Cells.{wrap}
+use Rattle.vocabularies.specs.Seeks as seeks
 use Rattle.forgetting.specs.Changes.{does, seek, OnChain}
 use Rattle.forgetting.specs.Changes.{changed as changed_by}
 use Rattle.definition.specs.Machine.{Machine, dp, ip, with_ip, changed, dict_of}
@@ -14,6 +15,7 @@ use Rattle.definition.specs.Asked.{quietly}
 use Rattle.definition.specs.Kernel
 use Rattle.definition.specs.Kernel.{InlineWord}
 use Rattle.definition.specs.Stacks.{nth, nth_return, popped, pushed, popped_returns, pushed_returns, has_cells, has_room, has_returns, has_return_room, go_to}
+use Rattle.definition.specs.Space.{has_newest}
 use Rattle.definition.specs.Define.{fits}
 use Rattle.definition.specs.Flow.{in_dictionary, has_inline, inline, past, do_inline}
 use Rattle.definition.specs.Words.{other_word}
@@ -77,8 +79,8 @@ module _ (m : Machine) (s : Steady m) where
       let code = cell_at m.low (token_of m.low m.names.newest) in
       let a = leb (first_at m.low m.names.newest + 4) (dp m) in
       let b = eqb code 202 || eqb code 205 in
-      leads_ask _ _ _ (has_returns 1 m) _ (λ h. leads_ask _ _ _ (a && b) _ (λ g.
-      let d = does_leads m s k (and_parts a b g).1 in
+      leads_ask _ _ _ (has_returns 1 m) _ (λ h. leads_ask _ _ _ (has_newest m && (a && b)) _ (λ g.
+      let d = does_leads m s k (and_parts a b (and_parts (has_newest m) (a && b) g).1).1 in
       let e = exit_leads (changed (does_set (ip m)) m) d.1 in
       stayed (go_to (nth_return 0 m) (popped_returns 1 (changed (does_set (ip m)) m))) (quietly_then d.0 e.0) e.1))
   inlines_lead Kernel.type_text k =
@@ -110,7 +112,7 @@ module _ (m : Machine) (s : Steady m) where
       (λ e. leads_if _ (eqb code 202) _ _ (λ e. leads_ask _ _ _ (in_dictionary t 4 m) _ (λ h. replaced_leads m s 0 (cell_at m.low (t + 2) ∷ []) (low_cell m s (t + 2), tt)))
       (λ e. leads_if _ (eqb code 203) _ _ (λ e. leads_ask _ _ _ (in_dictionary t 6 m) _ (λ h. replaced_leads m s 0 (cell_at m.low (t + 4) ∷ []) (low_cell m s (t + 4), tt)))
       (λ e. leads_if _ (eqb code 204) _ _
-      (λ e. leads_ask _ _ _ (in_dictionary t 14 m) _ (λ h. leads_ask _ _ _ (is_chain (dict_of m)) _ (λ g. leads_ask _ _ _ (on_chain (t + 4) (dict_of m)) _ (λ f. seek_leads (t + 4) f))))
+      (λ e. leads_ask _ _ _ (in_dictionary t 14 m) _ (λ h. leads_ask _ _ _ (is_chain (dict_of m)) _ (λ g. leads_ask _ _ _ (on_chain (t + 4) (dict_of m) && seeks.stays (t + 4) (dict_of m)) _ (λ f. seek_leads (t + 4) (and_parts (on_chain (t + 4) (dict_of m)) (seeks.stays (t + 4) (dict_of m)) f).0))))
       (λ e. leads_if _ (eqb code 205) _ _
       (λ e. leads_ask _ _ _ (in_dictionary t 6 m) _ (λ h. leads_ask _ _ _ (has_room 1 m) _ (λ g. leads_ask _ _ _ (has_return_room 1 m) _ (λ f.
       go_leads (pushed_returns (ip m ∷ []) (pushed (cell_at m.low (t + 2)) m)) (with_pushed_returns (pushed (cell_at m.low (t + 2)) m) (with_pushed m s (cell_at m.low (t + 2)) (low_cell m s (t + 2)) g) (ip m ∷ []) (s.pointer, tt)) (cell_at m.low (t + 4)) (low_cell m s (t + 4))))))

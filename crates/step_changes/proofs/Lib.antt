@@ -4,7 +4,6 @@ pub mod Leading
 pub mod Plain
 pub mod Spacing
 pub mod Buffering
-pub mod Restated
 pub mod Changing
 pub mod Compiling
 pub mod Flowing

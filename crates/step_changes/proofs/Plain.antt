@@ -6,7 +6,6 @@ use Rattle.std.proofs.ByRecursion.{All-append, All-drop, All-take}
 use Rattle.std.proofs.lemmas.Bool.{leb-true, and_parts}
 use Rattle.fault.specs.declared.Reason.TheVariants.{StackUnderflow, BadBase}
 use Rattle.image.specs.Cells.{cell_at}
-use Rattle.numbers.specs.Cells as numbers
 use Rattle.numbers.specs.Cells.{is_negative}
 use Rattle.numbers.specs.Division.{Signed, Divided, signed, product, floored, same_side, two_sides, cell_of}
 use Rattle.definition.specs.Machine.{Machine, dp, ip, with_cells, with_returns, dict_of}

@@ -4,7 +4,6 @@ use Rattle.std.specs.List.{AllByRecursion}
 use Rattle.std.proofs.ByRecursion.{All-append}
 use Rattle.std.proofs.lemmas.Bool.{leb-true, eqb-true, eqb-false}
 use Rattle.std.proofs.lemmas.Nat.{and_le_l, or_lt, xor_lt}
-use Rattle.numbers.specs.Cells as numbers
 use Rattle.numbers.specs.Cells.{flag, magnitude, is_negative}
 use Rattle.entries.specs.Entries.{token_of}
 use Rattle.dictionary.specs.Dict.{Dict}

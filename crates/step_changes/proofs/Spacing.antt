@@ -1,11 +1,10 @@
 -- The words on data space.
-use Rattle.std.proofs.Common.{◌≡◌, ℕ, zero, suc, ◌+◌, ◌-◌, ◌%◌, ◌<◌, ◌≤◌, max, Bool, true, false, ◌&&◌, eqb, leb, ◌⊎◌, List, [], ◌∷◌, ◌++◌, length, take, replicate, refl, ◌∙◌, subst, inl, inr, arith, if◌then◌else◌}
+use Rattle.std.proofs.Common.{◌≡◌, ℕ, zero, suc, ◌+◌, ◌-◌, ◌%◌, ◌<◌, ◌≤◌, Bool, true, false, ◌&&◌, eqb, leb, ◌⊎◌, List, [], ◌∷◌, ◌++◌, length, take, replicate, refl, ◌∙◌, subst, inl, inr, arith, if◌then◌else◌}
 use Rattle.std.proofs.ByRecursion.{All-weaker}
 use Rattle.std.proofs.lemmas.List.{length-append, length-take, length-replicate}
 use Rattle.std.proofs.lemmas.Bool.{leb-true, eqb-true, and_parts, or_cases}
 use Rattle.image.specs.Writes.{overwritten}
 use Rattle.image.specs.Cells.{at, cell, cell_at, zeros, Bytes}
-use Rattle.entries.specs.Entries.{body_of}
 use Rattle.numbers.specs.Cells.{wrap, is_negative, magnitude}
 use Rattle.forgetting.specs.Changes.{allot}
 use Rattle.forgetting.specs.Changes.{changed as changed_by}
@@ -15,11 +14,10 @@ use Rattle.definition.specs.Machine.{Machine, here, with_high, dict_of}
 use Rattle.definition.specs.Kernel
 use Rattle.definition.specs.Kernel.{SpaceWord}
 use Rattle.definition.specs.Stacks.{nth, popped, has_cells}
-use Rattle.definition.specs.Space.{in_reach, stored, do_space}
+use Rattle.definition.specs.Space.{in_reach, put, stored, moved, has_newest, lowest, do_space}
 use Rattle.step_changes.specs.Steady.{InOpen, Steady}
 use Rattle.step_changes.specs.Laws.{Quietly, stays, and_then}
 use Rattle.step_changes.proofs.Ranges.{bytes_cell, bytes_take, bytes_replicate, cell_below, length-cell, length_put, bytes_put, bytes_none, bytes_more}
-use Rattle.step_changes.proofs.Restated.{put, moved}
 use Rattle.step_changes.proofs.Leading.{Leads, leads_ask, with_high_lem, same_dict, nth_cell, with_popped, replaced_leads}
 
 -- other bytes of data space, and HERE as it was
@@ -106,6 +104,13 @@ module _ (m : Machine) (s : Steady m) where
   Given Kernel.allot = m.names.opened ≡ 0
   Given (Kernel.set_base n) = n < 65536
 
+  lowest_least : 34048 ≤ lowest m
+  lowest_least = least (has_newest m) refl
+    where
+      least : (b : Bool) → has_newest m ≡ b → 34048 ≤ lowest m
+      least true h = rw h (omega arith)
+      least false h = rw h (omega arith)
+
   pub space_leads : (w : SpaceWord) → Given w → Leads (dict_of m) (do_space w m)
   unfolding overwritten
   space_leads (Kernel.fetches n) z =
@@ -132,10 +137,10 @@ module _ (m : Machine) (s : Steady m) where
       high_leads m s _ (bytes_put 0 (cell n) m.high (bytes_cell n z) s.space.bytes) (length_put 0 (cell n) m.high (inr (omega (arith, length-cell n, s.space.long))))
   space_leads Kernel.allot z =
       let a = if is_negative (nth 0 m) then here m - magnitude (nth 0 m) else here m + nth 0 m in
-      let l = max 34048 (body_of m.low m.names.newest) in
+      let l = lowest m in
       leads_ask _ _ _ (has_cells 1 m) _ (λ h. leads_ask _ _ _ (leb l a && leb a 65535) _ (λ g.
       let p = and_parts (leb l a) (leb a 65535) g in
-      let q : 34048 ≤ a = omega (arith, leb-true l a p.0) in
+      let q : 34048 ≤ a = omega (arith, lowest_least, leb-true l a p.0) in
       here_leads (popped 1 m) (with_popped m s 1) z (take (a - 32768) m.high ++ zeros (a - 32768 - length m.high))
       (append-bytes _ _ (bytes_take (a - 32768) m.high s.space.bytes) (bytes_replicate _ 0 (omega arith)))
       (omega (arith, resized_long (a - 32768) m.high)) (omega (arith, resized_long (a - 32768) m.high, leb-true a 65535 p.1))))

@@ -10,14 +10,13 @@ use Rattle.entries.specs.Threads.{Youngest}
 use Rattle.entries.proofs.Walks.{in_parts, walk_youngest}
 use Rattle.dictionary.specs.Dict.{Dict}
 use Rattle.dictionary.specs.Search.{searched, or_else}
-use Rattle.numbers.specs.Cells as numbers
 use Rattle.numbers.specs.Cells.{negated}
 use Rattle.numbers.specs.Text.{number_in, magnitude_of}
 use Rattle.numbers.specs.Text as writing
 use Rattle.definition.specs.declared.registers.LastWord.{LastWord}
 use Rattle.definition.specs.Machine.{Machine, blk, offset, reading_on, dict_of}
-use Rattle.definition.specs.Asked.{Asked, given, ask, ◌>>=◌, ◌>>◌}
-use Rattle.definition.specs.Text.{Taken, buffer_of, text_of, next_word, is_name, take_name, take_to, ask_found, ask_there}
+use Rattle.definition.specs.Asked.{Asked, refused, given, ask, ◌>>=◌, ◌>>◌}
+use Rattle.definition.specs.Text.{Taken, buffer_of, text_of, before, next_word, is_name, take_name, take_to, ask_found, ask_there}
 use Rattle.definition.specs.Kernel
 use Rattle.definition.specs.Kernel.{Takes}
 use Rattle.definition.specs.Words.{Argument, taken}
@@ -27,7 +26,6 @@ use Rattle.step_changes.proofs.Ranges.{bytes_none, bytes_more, bytes_behind, byt
 use Rattle.step_changes.proofs.Leading.{Gives, gives_on}
 use Rattle.step_changes.proofs.Buffering.{Kept, with_reading, buffer_bytes}
 use Rattle.step_changes.proofs.Defining.{InThread}
-use Rattle.step_changes.proofs.Restated.{before, up_to}
 
 -- the text
 
@@ -37,6 +35,10 @@ text_bytes m s = either (eqb (blk m) 0)
     either : (b : Bool) → Bytes (if b then take m.text.source.length m.text.line else buffer_of m)
     either true = bytes_take m.text.source.length m.text.line s.text.line
     either false = buffer_bytes m s
+
+abbrev up_to : Machine → Option (List ℕ) → Asked Taken
+up_to m None = refused NothingFollows m
+up_to m (Some bs) = given (record { machine = reading_on (offset m + length bs + 1) m.text.source.word m; bytes = bs })
 
 pub read_on : (m : Machine) → Steady m → (t : ℕ) (w : LastWord) → Steady (reading_on t w m)
 read_on m s t w = with_reading m s _ w m.text.loads s.text.reads s.text.loads

@@ -13,7 +13,7 @@ returns-then-not-is_name c = record {
 pub search-requires : goal.search-requires
 search-requires c =
     let h = sym c.is_name.ensures ∙ c.if-not-is_name.false in
-    record { named = (name_least c.last_word-word.result.now h, name_ascii c.last_word-word.result.now h); holds = c.requires.holds }
+    (name_least c.last_word-word.result.now h, name_ascii c.last_word-word.result.now h)
 
 pub returns-in_err-found : goal.returns-in_err-found
 returns-in_err-found c =
