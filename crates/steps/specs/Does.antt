@@ -91,7 +91,7 @@ FromText n r i c o r' i' c' =
 -- lent the image, the data cells and the return cells, from its state questions on
 abbrev pub FromState : ℕ → Registers → List ℕ → List ℕ → List ℕ → Result (Unit {0}) Fault → Registers → List ℕ → List ℕ → List ℕ → Type 0
 FromState n r i c t o r' i' c' t' =
-    (again : ℕ → Machine → Asked After) (k : List Mark) (s : Meaning) →
+    (again : ℕ → Machine → Asked After) (k : List Mark) (s : Meaning) → length k ≡ 32 →
     Did (does n again (seen r i c t k s)) o (seen r' i' c' t' k s)
 
 -- lent the image, the data cells and the store
