@@ -25,7 +25,7 @@ types_nothing : (x : Asked After) (m m' : Machine) (space : ℕ) (o : Result (Un
 types_nothing x m m' space (Ok u) h = (h.0, h.1, h.2, h.3, omega arith)
 types_nothing x m m' space (Err e) h = (h, refl)
 
-grows_nothing : (out : List ℕ) (n : ℕ) → Grows out n [] out n
+pub grows_nothing : (out : List ℕ) (n : ℕ) → Grows out n [] out n
 grows_nothing out n = (omega arith, sym (append-nil (take n out)))
 
 pub quiet : (f : Machine → Asked After) (r r' : Registers) (i c t i' c' t' : List ℕ) (k k' : List Mark) (s s' : Meaning) (out : List ℕ) (n : ℕ) (o : Result (Unit {0}) Fault) → Did (f (seen r i c t k s)) o (seen r' i' c' t' k' s') → Acts f r (record { image = i; cells = c; returns = t; marks = k; out = out; typed = n; store = s }) (went_by o) r' (record { image = i'; cells = c'; returns = t'; marks = k'; out = out; typed = n; store = s' })

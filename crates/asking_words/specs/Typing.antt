@@ -1,0 +1,16 @@
+-- (.") from its state question on.
+use Rattle.std.specs.Prelude.{ℕ, ◌-◌, List, length, Result}
+use Rattle.fault.specs.declared.Fault.{Fault}
+use Rattle.store.specs.Meaning.{Meaning}
+use Rattle.definition.specs.declared.registers.Mark.{Mark}
+use Rattle.definition.specs.declared.ranged.Registers.{Registers}
+use Rattle.definition.specs.Machine.{Machine}
+use Rattle.definition.specs.Asked.{Asked, After}
+use Rattle.steps.specs.declared.progress.Progress.{Progress}
+use Rattle.steps.specs.Does.{seen, does, DidType, Grows}
+
+-- it was done on registers, image and data cells, and the output, of which n bytes were typed
+abbrev pub TypesText : Registers → List ℕ → List ℕ → List ℕ → ℕ → Result Progress Fault → Registers → List ℕ → ℕ → Type 0
+TypesText r i c out n o r' out' n' =
+    (new : List ℕ) × Grows out n new out' n' × ((again : ℕ → Machine → Asked After) (t : List ℕ) (k : List Mark) (s : Meaning) →
+    DidType (does 105 again (seen r i c t k s)) (seen r i c t k s) (length out - n) o (seen r' i c t k s) new)
