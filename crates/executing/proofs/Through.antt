@@ -9,7 +9,6 @@ use Rattle.stacks.specs.Stack.{stack_of}
 use Rattle.stacks.proofs.Laws.{drop_stack}
 use Rattle.image.specs.Cells.{cell_at}
 use Rattle.image.specs.Views.{low_of}
-use Rattle.image.proofs.Laws.{length_low}
 use Rattle.definition.specs.declared.registers.Mark.{Mark}
 use Rattle.definition.specs.declared.registers.Seat.{Seat}
 use Rattle.definition.specs.declared.registers.Shared.{Shared}
@@ -21,8 +20,8 @@ use Rattle.definition.specs.View.{lent, view_of}
 use Rattle.definition.specs.Flow.{in_dictionary}
 use Rattle.definition.specs.Stacks.{nth, popped, has_cells}
 use Rattle.definition.specs.Words.{taken, perform, do_kernel, execute_within, execute}
-use Rattle.definition.proofs.Agreeing.{dp_bottom}
 use Rattle.steps.specs.Seats.{with_cell_depth}
+use Rattle.steps.proofs.Dictionary.{inside_is}
 use Rattle.steps.specs.Does.{seen, IsRefused}
 use Rattle.steps.proofs.Exits.{depth_of, has_cells_lem, lacks_cells, cells_view}
 use Rattle.codes.specs.Performs.{coded}
@@ -73,15 +72,9 @@ is_59 : (n : ℕ) → eqb n 59 ≡ true → n ≡ 59
 is_59 n p = grind (arith, nat_tests)
 
 module _ (r : Registers) (i c : List ℕ) (li : length i ≡ 65536) (lc : length c ≡ 128) where
-  low_long : length (low_of r.shared.ends.dp i) ≡ r.shared.ends.dp
-  low_long = length_low r.shared.ends.dp i (dp_bottom r) (omega (arith, r.top))
-
-  pub in_dictionary_lem : (e : List ℕ) (k : List Mark) (s : Meaning) (a n : ℕ) (b : Bool) → (leb 256 a && leb (a + n) r.shared.ends.dp) ≡ b → in_dictionary a n (seen r i c e k s) ≡ b
-  in_dictionary_lem e k s a n b p = ap (λ d. leb 256 a && leb (a + n) d) low_long ∙ p
-
   module _ (t : ℕ) (x : is_execute r.shared.ends.dp i t ≡ true) where
     there : (e : List ℕ) (k : List Mark) (s : Meaning) → in_dictionary t 2 (seen r i c e k s) ≡ true
-    there e k s = in_dictionary_lem e k s t 2 true (both (leb 256 t && leb (t + 2) r.shared.ends.dp) (eqb (cell_at (low_of r.shared.ends.dp i) t) 59) x).0
+    there e k s = inside_is r i li c e k s t 2 true (both (leb 256 t && leb (t + 2) r.shared.ends.dp) (eqb (cell_at (low_of r.shared.ends.dp i) t) 59) x).0
 
     coded_59 : cell_at (low_of r.shared.ends.dp i) t ≡ 59
     coded_59 = is_59 (cell_at (low_of r.shared.ends.dp i) t) (both (leb 256 t && leb (t + 2) r.shared.ends.dp) (eqb (cell_at (low_of r.shared.ends.dp i) t) 59) x).1

@@ -1,5 +1,5 @@
 -- The ends of the words that push a cell of the dictionary.
-use Rattle.std.proofs.Common.{◌≡◌, ℕ, ◌+◌, ◌-◌, ◌<◌, ◌≤◌, Bool, true, false, ◌&&◌, ◌||◌, eqb, leb, List, [], ◌∷◌, length, get_or, drop, Ok, Err, Result, sym, refl, ap, ◌∙◌, arith}
+use Rattle.std.proofs.Common.{◌≡◌, ℕ, ◌+◌, ◌-◌, ◌<◌, ◌≤◌, Bool, true, false, ◌&&◌, ◌||◌, eqb, List, [], ◌∷◌, length, get_or, drop, Ok, Err, Result, sym, refl, ap, ◌∙◌, arith}
 use Rattle.std.proofs.lemmas.Bool.Decides.{nat_tests}
 use Rattle.fault.specs.declared.Fault.{Fault}
 use Rattle.fault.specs.declared.Reason.TheVariants.{StackUnderflow, BadToken}
@@ -8,7 +8,7 @@ use Rattle.store.specs.Meaning.{Meaning}
 use Rattle.stacks.specs.Stack.{stack_of}
 use Rattle.image.specs.Cells.{cell_at}
 use Rattle.image.specs.Views.{low_of}
-use Rattle.image.proofs.Laws.{length_low, cell_low}
+use Rattle.image.proofs.Laws.{cell_low}
 use Rattle.definition.specs.declared.registers.Mark.{Mark}
 use Rattle.definition.specs.declared.ranged.Registers.{Registers}
 use Rattle.definition.specs.Machine.{Machine}
@@ -16,25 +16,15 @@ use Rattle.definition.specs.Asked.{Asked, refused, After, quietly}
 use Rattle.definition.specs.Words.{Argument, perform, other_word}
 use Rattle.definition.specs.Stacks.{has_cells, nth, replaced}
 use Rattle.definition.specs.Flow.{in_dictionary}
-use Rattle.definition.proofs.Agreeing.{dp_bottom}
 use Rattle.steps.specs.Seats.{told_by, with_cell_depth}
 use Rattle.steps.specs.Does.{seen, acts, Does, OnSpace}
 use Rattle.steps.proofs.Exits.{refused_at, does_like, has_cells_lem, lacks_cells, has_room_lem, cells_view}
 use Rattle.steps.specs.Inside.{inside}
+use Rattle.steps.proofs.Dictionary.{inside_tells, inside_is}
 use Rattle.token_words.specs.declared.tokens.PushingWord.{PushingWord}
 use Rattle.token_words.specs.Numbers.{made_by_create, pushing_code, pushing_place}
 
--- what is inside, by numbers
-pub inside_tells : (a n dp : ℕ) → inside a n dp ≡ true → (256 ≤ a) × (a + n ≤ dp)
-inside_tells a n dp p = (grind (arith, nat_tests), grind (arith, nat_tests))
-
 module _ (r : Registers) (i c : List ℕ) (li : length i ≡ 65536) (lc : length c ≡ 128) where
-  low_long : length (low_of r.shared.ends.dp i) ≡ r.shared.ends.dp
-  low_long = length_low r.shared.ends.dp i (dp_bottom r) (omega (arith, r.top))
-
-  inside_is : (t : List ℕ) (k : List Mark) (s : Meaning) (a n : ℕ) (b : Bool) → inside a n r.shared.ends.dp ≡ b → in_dictionary a n (seen r i c t k s) ≡ b
-  inside_is t k s a n b p = ap (λ d. leb 256 a && leb (a + n) d) low_long ∙ p
-
   pushing_no : (w : PushingWord) (m : Machine) (a : ℕ) → in_dictionary a (pushing_place w + 2) m ≡ false → other_word (pushing_code w) a m ≡ refused BadToken m
   pushing_no PushingWord.Created m a h = rw h
   pushing_no PushingWord.Constant m a h = rw h
@@ -47,14 +37,14 @@ module _ (r : Registers) (i c : List ℕ) (li : length i ≡ 65536) (lc : length
   Leaves r' c' x o = (i t : List ℕ) (k : List Mark) (s : Meaning) → Does (replaced 0 (x ∷ [])) (seen r i c t k s) o (seen r' i c' t k s)
 
   pub pushing_bad : (w : PushingWord) (a : ℕ) (e : Fault) → inside a (pushing_place w + 2) r.shared.ends.dp ≡ false → e ≡ fault_of BadToken (told_by r.seat) → (t : List ℕ) (k : List Mark) (s : Meaning) → Does (other_word (pushing_code w) a) (seen r i c t k s) (Err e) (seen r i c t k s)
-  pushing_bad w a e h p t k s = refused_at (other_word (pushing_code w) a) (seen r i c t k s) e BadToken (pushing_no w (seen r i c t k s) a (inside_is t k s a (pushing_place w + 2) false h)) p
+  pushing_bad w a e h p t k s = refused_at (other_word (pushing_code w) a) (seen r i c t k s) e BadToken (pushing_no w (seen r i c t k s) a (inside_is r i li c t k s a (pushing_place w + 2) false h)) p
 
   pub pushing_done : (w : PushingWord) (r' : Registers) (c' : List ℕ) (a x : ℕ) (o : Result (Unit {0}) Fault) → inside a (pushing_place w + 2) r.shared.ends.dp ≡ true → x ≡ cell_at i (a + pushing_place w) → Leaves r' c' x o → (t : List ℕ) (k : List Mark) (s : Meaning) → Does (other_word (pushing_code w) a) (seen r i c t k s) o (seen r' i c' t k s)
   pushing_done w r' c' a x o h p g t k s =
       let place = pushing_place w in
       let b = inside_tells a (place + 2) r.shared.ends.dp h in
       let e : cell_at (low_of r.shared.ends.dp i) (a + place) ≡ x = cell_low r.shared.ends.dp i (a + place) (omega (arith, b.0)) (omega (arith, b.1)) ∙ sym p in
-      does_like (other_word (pushing_code w) a) (replaced 0 (x ∷ [])) (seen r i c t k s) (seen r' i c' t k s) o (pushing_yes w (seen r i c t k s) a (inside_is t k s a (place + 2) true h) ∙ ap (λ y. replaced 0 (y ∷ []) (seen r i c t k s)) e) (g i t k s)
+      does_like (other_word (pushing_code w) a) (replaced 0 (x ∷ [])) (seen r i c t k s) (seen r' i c' t k s) o (pushing_yes w (seen r i c t k s) a (inside_is r i li c t k s a (place + 2) true h) ∙ ap (λ y. replaced 0 (y ∷ []) (seen r i c t k s)) e) (g i t k s)
 
   -- >BODY
   abbrev token : ℕ
@@ -73,7 +63,7 @@ module _ (r : Registers) (i c : List ℕ) (li : length i ≡ 65536) (lc : length
   body_yes again a m h k = rw (h, k)
 
   made_is : (t : List ℕ) (k : List Mark) (s : Meaning) (b : Bool) → made_by_create (low_of r.shared.ends.dp i) r.shared.ends.dp token ≡ b → (in_dictionary token 4 (seen r i c t k s) && (eqb (cell_at (low_of r.shared.ends.dp i) token) 202 || eqb (cell_at (low_of r.shared.ends.dp i) token) 205)) ≡ b
-  made_is t k s b p = ap (λ y. y && (eqb (cell_at (low_of r.shared.ends.dp i) token) 202 || eqb (cell_at (low_of r.shared.ends.dp i) token) 205)) (inside_is t k s token 4 (inside token 4 r.shared.ends.dp) refl) ∙ p
+  made_is t k s b p = ap (λ y. y && (eqb (cell_at (low_of r.shared.ends.dp i) token) 202 || eqb (cell_at (low_of r.shared.ends.dp i) token) 205)) (inside_is r i li c t k s token 4 (inside token 4 r.shared.ends.dp) refl) ∙ p
 
   pub body_short : (e : Fault) → r.seat.depths.cells < 1 → e ≡ fault_of StackUnderflow (told_by r.seat) → OnSpace 61 r i c (Err e) r i c
   body_short e h p = λ again a t k s. refused_at (acts 61 again a) (seen r i c t k s) e StackUnderflow (body_short_at again a (seen r i c t k s) (lacks_cells r i c t k s lc 1 h)) p

@@ -1,0 +1,5 @@
+// Words that are executed by entering them, and vocabularies.
+#![tactic(auto)]
+
+pub mod entering;
+pub mod vocabulary;

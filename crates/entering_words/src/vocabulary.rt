@@ -1,0 +1,28 @@
+// Vocabularies.
+ghost use Rattle.std.specs.Prelude.{◌≡◌, ℕ, List};
+ghost use Rattle.definition.specs.Words.{other_word};
+ghost use Rattle.definition.specs.declared.registers.Mark.{Mark};
+ghost use Rattle.steps.specs.Does.{Does, seen};
+ghost use Rattle.store.specs.Meaning.{Meaning};
+
+use definition::ranged::Registers;
+use fault::Fault;
+use seat_dictionary::{dictionary_of, keep};
+use steps::faults::place;
+use steps::inside::ask_inside;
+use vocabularies::seek;
+
+// 204 becomes CONTEXT. Its first head lies behind its first parameter cell.
+pub fn vocabulary_word(
+    registers: &mut Registers,
+    token: u16,
+    image: &[u8; 65536],
+) -> Result<(), Fault>
+    ensures { (c t : List ℕ) (k : List Mark) (s : Meaning) → Does (other_word 204 token) (seen registers.old image.now c t k s) result (seen registers.new image.now c t k s) }
+{
+    ask_inside(registers, token, 14)?;
+    let mut d = dictionary_of(registers);
+    seek(&mut d, image, token + 4, place(registers))?;
+    keep(registers, d);
+    Ok(())
+}
