@@ -1,0 +1,34 @@
+// Appending to the open definition.
+#![tactic(auto)]
+
+ghost use Rattle.std.specs.Prelude.{◌≡◌, ℕ, List, length, take};
+ghost use Rattle.appending.specs.Spaces.{InSpace};
+ghost use Rattle.definition.specs.Compile.{literal_of};
+ghost use Rattle.dictionary.specs.Dict.{appended};
+
+use definition::ranged::Registers;
+use fault::Fault;
+use kernel_tokens::CompiledWord;
+use seat_dictionary::{dictionary_of, keep};
+use steps::faults::place;
+
+// Appends bytes, if they have space.
+pub fn append(registers: &mut Registers, image: &mut [u8; 65536], bytes: &[u8]) -> Result<(), Fault>
+    ensures did { InSpace (length bytes.now) (appended bytes.now) registers.old image.old result registers.new image.new }
+    ensures below { take 256 image.new ≡ take 256 image.old }
+{
+    let mut d = dictionary_of(registers);
+    d.append(image, bytes, place(registers))?;
+    keep(registers, d);
+    Ok(())
+}
+
+// (LIT) and a cell, as they are compiled.
+#[tactic(auto, using(crate::proofs::Bytes::two_cells))]
+pub fn literal(x: u16) -> [u8; 4]
+    ensures { result ≡ literal_of x }
+{
+    let [low, high] = CompiledWord::Literal.token().to_le_bytes();
+    let [x_low, x_high] = x.to_le_bytes();
+    [low, high, x_low, x_high]
+}

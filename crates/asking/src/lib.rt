@@ -1,0 +1,42 @@
+// What words ask of the state, behind what they take from the text.
+#![tactic(auto)]
+
+ghost use Rattle.std.specs.Prelude.{◌≡◌, [], ◌∷◌, IfOk};
+ghost use Rattle.asking.specs.Asking.{StateAnswers};
+ghost use Rattle.definition.specs.Kernel.{has_open, ip_zero, none_open};
+
+use definition::ranged::Registers;
+use fault::{Fault, Reason};
+use steps::faults::ask;
+
+// Is a definition open?
+pub fn ask_open(registers: &Registers) -> Result<(), Fault>
+    ensures { StateAnswers (has_open ∷ []) registers.now result }
+{
+    ask(
+        registers,
+        registers.shared.names.opened != 0,
+        Reason::NoDefinition,
+    )
+}
+
+// Is none open?
+pub fn ask_none_open(registers: &Registers) -> Result<(), Fault>
+    ensures answers { StateAnswers (none_open ∷ []) registers.now result }
+    ensures none { IfOk result (λ _. registers.now.shared.names.opened ≡ 0) }
+{
+    ask(
+        registers,
+        registers.shared.names.opened == 0,
+        Reason::DefinitionOpen,
+    )
+}
+
+// Is none open, and does no word run?
+pub fn ask_at_rest(registers: &Registers) -> Result<(), Fault>
+    ensures answers { StateAnswers (none_open ∷ ip_zero ∷ []) registers.now result }
+    ensures none { IfOk result (λ _. registers.now.shared.names.opened ≡ 0) }
+{
+    ask_none_open(registers)?;
+    ask(registers, registers.seat.flow.ip == 0, Reason::WordRunning)
+}
