@@ -15,6 +15,7 @@ use steps::faults::place;
 // Appends bytes, if they have space.
 pub fn append(registers: &mut Registers, image: &mut [u8; 65536], bytes: &[u8]) -> Result<(), Fault>
     ensures did { InSpace (length bytes.now) (appended bytes.now) registers.old image.old result registers.new image.new }
+    ensures depths { registers.new.seat.depths ≡ registers.old.seat.depths }
     ensures below { take 256 image.new ≡ take 256 image.old }
 {
     let mut d = dictionary_of(registers);

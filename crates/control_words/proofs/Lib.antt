@@ -1,0 +1,3 @@
+pub mod Marking
+pub mod Shapes
+pub mod Built

@@ -28,6 +28,13 @@ pub record PutBack (r r' : Registers) (d : Dictionary) : Type 0 where
   pub shared : r'.shared ≡ share_of d.ends d.names r.shared
   pub seat : r'.seat ≡ seat_with d.order r.seat
 
+-- what was read off, put back at once
+pub read_back : (r : Registers) (d : Dictionary) → ReadOff r d → PutBack r r d
+read_back r d p = record {
+  shared = ap (λ y. share_of y r.shared.names r.shared) (sym p.ends) ∙ ap (λ y. share_of d.ends y r.shared) (sym p.names);
+  seat = ap (λ y. seat_with y r.seat) (sym p.order);
+}
+
 pub here_seen : (r : Registers) (i c t : List ℕ) (k : List Mark) (s : Meaning) → length i ≡ 65536 → here (seen r i c t k s) ≡ r.shared.ends.here
 here_seen r i c t k s l =
     let e : length (high_of r.shared.ends.here i) ≡ r.shared.ends.here - 32768 = length_high r.shared.ends.here i (omega (arith, r.limit)) in
