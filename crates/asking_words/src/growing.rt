@@ -3,7 +3,7 @@ ghost use Rattle.std.specs.Prelude.{◌≡◌, ℕ, List, length, take};
 ghost use Rattle.growing_words.specs.Numbers.{appending_number};
 ghost use Rattle.steps.specs.Does.{FromState};
 
-use super::asking::{ask_idle, ask_shut};
+use asking::{ask_none_open, ask_not_running};
 use definition::ranged::Registers;
 use fault::Fault;
 use growing_words::allot::allot;
@@ -21,7 +21,7 @@ pub fn appending(
     ensures did { (t : List ℕ) → FromState (appending_number word) registers.old image.old cells.old t result registers.new image.new cells.new t }
     ensures below { take 256 image.new ≡ take 256 image.old }
 {
-    ask_shut(registers)?;
+    ask_none_open(registers)?;
     appending_word(registers, word, image, cells)
 }
 
@@ -34,7 +34,7 @@ pub fn allotting(
     ensures did { (t : List ℕ) → FromState 46 registers.old image.old cells.now t result registers.new image.new cells.now t }
     ensures below { take 256 image.new ≡ take 256 image.old }
 {
-    ask_shut(registers)?;
+    ask_none_open(registers)?;
     allot(registers, image, cells)
 }
 
@@ -42,6 +42,6 @@ pub fn allotting(
 pub fn loading(registers: &mut Registers, cells: &[u16; 128]) -> Result<(), Fault>
     ensures { (i t : List ℕ) → length i ≡ 65536 → FromState 58 registers.old i cells.now t result registers.new i cells.now t }
 {
-    ask_idle(registers)?;
+    ask_not_running(registers)?;
     load_word(registers, cells)
 }

@@ -1,10 +1,10 @@
 // Words that ask for a running word (11).
 ghost use Rattle.std.specs.Prelude.{◌≡◌, ℕ, List};
-ghost use Rattle.asking_words.specs.Typing.{TypesText};
+ghost use Rattle.asking_words.specs.Asked.{TypesText};
 ghost use Rattle.flow_words.specs.Numbers.{inline_number, returns_number};
 ghost use Rattle.steps.specs.Does.{FromState};
 
-use super::asking::ask_running;
+use asking::ask_running;
 use definition::ranged::Registers;
 use fault::Fault;
 use flow_words::inline::inline_word;

@@ -10,7 +10,9 @@ use Rattle.definition.specs.Words.{row_of, do_kernel, other_word}
 use Rattle.steps.specs.declared.progress.Progress.{Progress}
 use Rattle.steps.specs.Does.{seen, acts, Does, Did, OnCells, OnSpace, OnBlocks}
 use Rattle.codes.specs.Performs.{coded, went_by, Memory, memory, Performs, FullKeeps}
-use Rattle.codes.proofs.Lifting.{Asking, bare, did_by, quiet, plain_did, kernel_does, if_false}
+use Rattle.asking.proofs.Words.{did_by}
+use Rattle.asking.proofs.States.{Asking, bare}
+use Rattle.codes.proofs.Lifting.{quiet, plain_did, kernel_does, if_false}
 
 -- a word that types nothing leaves no full output
 pub never_full : (o : Result (Unit {0}) Fault) (p : Result Progress Fault) (c c' : List ℕ) → p ≡ went_by o → FullKeeps p c c'

@@ -18,7 +18,7 @@ use Rattle.growing_words.specs.Numbers.{appending_number}
 use Rattle.flow_words.specs.Numbers.{returns_number, inline_number}
 use Rattle.block_words.specs.Buffers.{block_number}
 use Rattle.control_words.specs.Numbers.{control_number}
-use Rattle.codes.proofs.Lifting.{Asking}
+use Rattle.asking.proofs.States.{Asking}
 
 -- the row of a number takes nothing from the text and asks this of the state: read off by computing
 pub stack_rows_lem : (w : StackWord) → Asking (stack_number w) []

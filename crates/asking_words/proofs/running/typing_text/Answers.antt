@@ -1,17 +1,18 @@
-use Rattle.std.proofs.Common.{[], refl}
+use Rattle.std.proofs.Common.{[], ◌∷◌, refl}
 use Rattle.std.proofs.lemmas.Result.{err_from_is_err_and}
 use Rattle.definition.specs.Kernel
 use Rattle.steps.specs.Does.{seen}
-use Rattle.codes.proofs.Lifting.{bare, grows_nothing}
+use Rattle.asking.proofs.States.{bare}
+use Rattle.codes.proofs.Lifting.{grows_nothing}
 use Rattle.codes.proofs.Rows.{text_row}
-use Rattle.asking_words.proofs.Asked.{refused_so, typed_so}
+use Rattle.asking.proofs.States.{refused_so, typed_so}
 use Rattle.asking_words.proofs.running.typing_text.Goals as goal
 
 pub returns-in_err-ask_running-clause-did : goal.returns-in_err-ask_running-clause-did
 returns-in_err-ask_running-clause-did c =
     let p = err_from_is_err_and c.from_residual.result c.from_residual.ensures.1 in
     let h = c.in_err-ask_running.ensures in
-    rw (p.1, p.2) ([], grows_nothing c.args.output.now.bytes.now c.args.output.now.typed, λ again t k s. (refused_so 105 Kernel.ip_set text_row again (seen c.args.registers.now c.args.image.now c.args.cells.now t k s) _ h.0 h.1, refl))
+    rw (p.1, p.2) ([], grows_nothing c.args.output.now.bytes.now c.args.output.now.typed, λ again t k s. (refused_so 105 (Kernel.ip_set ∷ []) text_row again (seen c.args.registers.now c.args.image.now c.args.cells.now t k s) _ (h c.args.image.now c.args.cells.now t k s), refl))
 
 pub returns-clause-did : goal.returns-clause-did
 returns-clause-did c =
@@ -20,5 +21,5 @@ returns-clause-did c =
       d.1,
       λ again t k s.
           let m = seen c.args.registers.now c.args.image.now c.args.cells.now t k s in
-          typed_so 105 Kernel.ip_set text_row again m _ c.typing_word.result _ d.0 c.in_ok-ask_running.ensures (d.2 again (bare m) t k s),
+          typed_so 105 (Kernel.ip_set ∷ []) text_row again m _ c.typing_word.result _ d.0 (c.in_ok-ask_running.ensures c.args.image.now c.args.cells.now t k s) (d.2 again (bare m) t k s),
     )

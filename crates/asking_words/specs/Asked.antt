@@ -1,4 +1,4 @@
--- (.") from its state question on.
+-- Words from their state questions on.
 use Rattle.std.specs.Prelude.{ℕ, ◌-◌, List, length, Result}
 use Rattle.fault.specs.declared.Fault.{Fault}
 use Rattle.store.specs.Meaning.{Meaning}
@@ -7,10 +7,15 @@ use Rattle.definition.specs.declared.ranged.Registers.{Registers}
 use Rattle.definition.specs.Machine.{Machine}
 use Rattle.definition.specs.Asked.{Asked, After}
 use Rattle.steps.specs.declared.progress.Progress.{Progress}
-use Rattle.steps.specs.Does.{seen, does, DidType, Grows}
+use Rattle.steps.specs.Does.{seen, does, Did, DidType, Grows}
 
--- it was done on registers, image and data cells, and the output, of which n bytes were typed
+-- (.") was done on registers, image and data cells, and the output, of which n bytes were typed
 abbrev pub TypesText : Registers → List ℕ → List ℕ → List ℕ → ℕ → Result Progress Fault → Registers → List ℕ → ℕ → Type 0
 TypesText r i c out n o r' out' n' =
     (new : List ℕ) × Grows out n new out' n' × ((again : ℕ → Machine → Asked After) (t : List ℕ) (k : List Mark) (s : Meaning) →
     DidType (does 105 again (seen r i c t k s)) (seen r i c t k s) (length out - n) o (seen r' i c t k s) new)
+
+-- the word of number n was done on registers, image and marks
+abbrev pub FromMarks : ℕ → Registers → List ℕ → List Mark → Result (Unit {0}) Fault → Registers → List ℕ → List Mark → Type 0
+FromMarks n r i k o r' i' k' =
+    (again : ℕ → Machine → Asked After) (c t : List ℕ) (s : Meaning) → Did (does n again (seen r i c t k s)) o (seen r' i' c t k' s)
