@@ -1,4 +1,7 @@
-// The words that compile: so far only what they are called.
+// Words that end a definition, append to it, or change the newest entry.
 #![tactic(auto)]
 
+mod changes;
+mod compiled;
+mod flow;
 pub mod words;

@@ -27,6 +27,7 @@ use Rattle.steps.specs.Does.{seen, Refuses}
 use Rattle.steps.proofs.Exits.{refused_at}
 use Rattle.steps.proofs.Dictionary.{low_long, inside_is}
 use Rattle.seat_dictionary.proofs.Changing.{ReadOff, read_back, changed_view}
+use Rattle.appending.proofs.Answered.{spaced, full_stays}
 use Rattle.appending.specs.Spaces.{InSpace}
 use Rattle.control_words.specs.declared.structures.Structure.{Structure}
 use Rattle.control_words.specs.Structures.{kinds_of, bytes_of, cells_of, marks_of, learned, Learns, Replaces, Builds}
@@ -35,24 +36,6 @@ pub cell_learns : (r : Registers) (d : Dictionary) (i i' : List ℕ) → length 
 cell_learns r d i i' l p a e o c t k s =
     changed_view r r d d i i' (patched a r.shared.ends.dp) l p (read_back r d p) e o c t k s (ap (λ (y : Ends). y.here) p.ends)
     ∙ ap (λ y. changed (patched a y) (seen r i c t k s)) (sym (low_long r i l))
-
--- a question of space, answered
-Refused : Asked After → Type 0
-Refused (refused why m) = Unit {0}
-Refused (given a) = ⊥
-
-left_by : Asked After → Machine → Machine
-left_by (refused why m) d = d
-left_by (given a) d = a.machine
-
-spaced : (b : Bool) (m m' m1 : Machine) → (ask m DictionaryFull b >> quietly m') ≡ quietly m1 → (b ≡ true) × (m1 ≡ m')
-unfolding Refused left_by
-spaced true m m' m1 e = (refl, sym (ap (λ x. left_by x m) e))
-spaced false m m' m1 e = absurd (subst Refused e tt)
-
-full_stays : (b : Bool) (m m' : Machine) (y : Asked After) (e : Fault) → Refuses (ask m DictionaryFull b >> quietly m') e m → Refuses (ask m DictionaryFull b >> y) e m
-full_stays true m m' y e h = absurd h
-full_stays false m m' y e h = h
 
 -- so many marks are there
 marks_enough : (ks : List Kind) (ms : List Mark) → are_marks ks ms ≡ true → length ks ≤ length ms
