@@ -1,8 +1,10 @@
 // Words that ask for a running word (11).
 ghost use Rattle.std.specs.Prelude.{◌≡◌, ℕ, List};
-ghost use Rattle.asking_words.specs.Asked.{TypesText};
+ghost use Rattle.asking.specs.Asking.{StateAnswers};
+ghost use Rattle.asking_words.specs.Asked.{typing_asks, FromOutput};
 ghost use Rattle.flow_words.specs.Numbers.{inline_number, returns_number};
 ghost use Rattle.steps.specs.Does.{FromState};
+ghost use Rattle.typing_words.specs.Numbers.{typing_number};
 
 use asking::ask_running;
 use definition::ranged::Registers;
@@ -42,16 +44,26 @@ pub fn reading(
     inline_word(registers, word, image, cells, returns)
 }
 
-// (.")
-pub fn typing_text(
+fn ask_for_text(registers: &Registers, word: TypingWord) -> Result<(), Fault>
+    ensures { StateAnswers (typing_asks word) registers.now result }
+{
+    match word {
+        TypingWord::Text => ask_running(registers),
+        _ => Ok(()),
+    }
+}
+
+// . U. EMIT TYPE CR SPACES, and (."), which alone asks for a running word.
+pub fn typing(
     registers: &mut Registers,
+    word: TypingWord,
     image: &[u8; 65536],
     cells: &[u16; 128],
     output: &mut Output,
 ) -> Result<Progress, Fault>
-    ensures did { TypesText registers.old image.now cells.now output.old.bytes.now output.old.typed result registers.new output.new.bytes.now output.new.typed }
+    ensures did { FromOutput (typing_number word) registers.old image.now cells.now output.old.bytes.now output.old.typed result registers.new output.new.bytes.now output.new.typed }
     ensures same_reference { output.new.bytes.ghost_name ≡ output.old.bytes.ghost_name }
 {
-    ask_running(registers)?;
-    typing_word(registers, TypingWord::Text, image, cells, output)
+    ask_for_text(registers, word)?;
+    typing_word(registers, word, image, cells, output)
 }
