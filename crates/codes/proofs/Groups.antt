@@ -1,5 +1,5 @@
 -- What each group of words promises, as what executing by code promises.
-use Rattle.std.proofs.Common.{◌≡◌, ℕ, true, false, ◌&&◌, leb, List, [], length, Ok, Err, Result, sym, subst}
+use Rattle.std.proofs.Common.{◌≡◌, ℕ, ◌-◌, true, false, ◌&&◌, leb, List, [], length, Ok, Err, Result, sym, subst}
 use Rattle.fault.specs.declared.Fault.{Fault}
 use Rattle.store.specs.Meaning.{Meaning}
 use Rattle.definition.specs.declared.registers.Mark.{Mark}
@@ -8,7 +8,7 @@ use Rattle.definition.specs.Machine.{Machine}
 use Rattle.definition.specs.Asked.{Asked, After}
 use Rattle.definition.specs.Words.{row_of, do_kernel, other_word}
 use Rattle.steps.specs.declared.progress.Progress.{Progress}
-use Rattle.steps.specs.Does.{seen, acts, Does, Did, OnCells, OnSpace, OnBlocks}
+use Rattle.steps.specs.Does.{seen, acts, does, Does, Did, OnCells, OnSpace, OnBlocks, FromText, FromState, DidType, Grows}
 use Rattle.codes.specs.Performs.{coded, went_by, Memory, memory, Performs, FullKeeps}
 use Rattle.asking.proofs.Words.{did_by}
 use Rattle.asking.proofs.States.{Asking, bare}
@@ -56,3 +56,20 @@ module _ (num code t : ℕ) (r r' : Registers) (o : Result (Unit {0}) Fault) (p 
   space_performs i' c' a h =
       acts_performs num code t r r' o p q f i c e i' c' e k k out n s s a
       (λ again. did_by (acts num again (bare (seen r i c e k s))) (seen r i c e k s) (seen r' i' c' e k s) o (h again (bare (seen r i c e k s)) e k s))
+
+  -- from its state questions on, and from its text on
+  pub state_performs : (i' c' e' : List ℕ) → (leb 1 num && leb num 105) ≡ true → length k ≡ 32 → FromState num r i c e o r' i' c' e' → Performs code t r (memory i c e k out n s) p r' (memory i' c' e' k out n s)
+  state_performs i' c' e' a l h = does_performs num code t r r' o p q f i c e i' c' e' k k out n s s a (λ again. h again k s l)
+
+  pub text_performs : (i' c' : List ℕ) → (leb 1 num && leb num 105) ≡ true → FromText num r i c o r' i' c' → Performs code t r (memory i c e k out n s) p r' (memory i' c' e k out n s)
+  text_performs i' c' a h = does_performs num code t r r' o p q f i c e i' c' e k k out n s s a (λ again. h again e k s)
+
+  pub marks_performs : (i' : List ℕ) (k' : List Mark) → (leb 1 num && leb num 105) ≡ true → ((again : ℕ → Machine → Asked After) (c e : List ℕ) (s : Meaning) → Did (does num again (seen r i c e k s)) o (seen r' i' c e k' s)) → Performs code t r (memory i c e k out n s) p r' (memory i' c e k' out n s)
+  marks_performs i' k' a h = does_performs num code t r r' o p q f i c e i' c e k k' out n s s a (λ again. h again c e s)
+
+-- a word that types
+pub typing_performs : (num code t : ℕ) (r r' : Registers) (p : Result Progress Fault) → code ≡ num → (leb 1 num && leb num 105) ≡ true → (i c e : List ℕ) (k : List Mark) (out out' new : List ℕ) (n n' : ℕ) (s : Meaning) → Grows out n new out' n'
+    → ((again : ℕ → Machine → Asked After) → DidType (does num again (seen r i c e k s)) (seen r i c e k s) (length out - n) p (seen r' i c e k s) new) → Performs code t r (memory i c e k out n s) p r' (memory i c e k out' n' s)
+typing_performs num code t r r' p q a i c e k out out' new n n' s g h =
+    subst (λ y. Performs y t r (memory i c e k out n s) p r' (memory i c e k out' n' s)) (sym q)
+    (λ again. record { new = new; output = g; did = subst (λ (y : Asked After). DidType y (seen r i c e k s) (length out - n) p (seen r' i c e k s) new) (sym (kernel_does again num t (seen r i c e k s) a)) (h again) })

@@ -127,6 +127,3 @@ body_row = record { kernel = refl; takes = refl; asks = refl }
 
 pub abort_row : Asking 63 []
 abort_row = record { kernel = refl; takes = refl; asks = refl }
-
-pub text_row : Asking 105 (Kernel.ip_set ∷ [])
-text_row = record { kernel = refl; takes = refl; asks = refl }

@@ -1,0 +1,62 @@
+// Division, data space that grows, typing, blocks, names, compiling, and what has no code.
+ghost use Rattle.std.specs.Prelude.{◌≡◌, ◌≢◌, take};
+ghost use Rattle.codes.specs.Codes.{SeldomCoded};
+ghost use Rattle.codes.specs.Performs.{memory, FullKeeps, Performs};
+
+use asking_words::building::building;
+use asking_words::growing::{allotting, appending, loading};
+use asking_words::running::typing;
+use block_words::words::block_word;
+use codes::code::SeldomWord;
+use codes::went;
+use compiling_words::words::compiling_word;
+use data_words::dividing::divide_word;
+use definition::ranged::Registers;
+use definition::registers::Mark;
+use entering_words::vocabulary::vocabulary_word;
+use fault::{Fault, Reason};
+use naming_words::naming::naming_word;
+use steps::faults::refusal;
+use steps::progress::Progress;
+use store::Store;
+use token_words::tokens::body_word;
+use typing_words::output::Output;
+
+// Does what the word of this code and token does. EXECUTE is gone through before: its arm is never taken.
+pub fn seldom_word<S: Store>(
+    registers: &mut Registers,
+    word: SeldomWord,
+    number: u16,
+    token: u16,
+    image: &mut [u8; 65536],
+    cells: &mut [u16; 128],
+    returns: &mut [u16; 128],
+    marks: &mut [Mark; 32],
+    output: &mut Output,
+    store: &mut S,
+) -> Result<Progress, Fault>
+    requires coded { SeldomCoded number word }
+    requires other { number ≢ 59 }
+    ensures did { Performs number token registers.old (memory image.old cells.old returns.old marks.old output.old.bytes.now output.old.typed (S.Store.means store.old)) result registers.new (memory image.new cells.new returns.new marks.new output.new.bytes.now output.new.typed (S.Store.means store.new)) }
+    ensures full { FullKeeps result cells.old cells.new }
+    ensures below { take 256 image.new ≡ take 256 image.old }
+    ensures same_reference { output.new.bytes.ghost_name ≡ output.old.bytes.ghost_name }
+{
+    match word {
+        SeldomWord::Divide(word) => went(divide_word(registers, word, cells)),
+        SeldomWord::Appending(word) => went(appending(registers, word, image, cells)),
+        SeldomWord::Allot => went(allotting(registers, image, cells)),
+        SeldomWord::Typing(word) => typing(registers, word, image, cells, output),
+        SeldomWord::Block(word) => went(block_word(registers, word, image, cells, store)),
+        SeldomWord::Load => went(loading(registers, cells)),
+        SeldomWord::ToBody => went(body_word(registers, image, cells)),
+        SeldomWord::Abort => Err(refusal(registers, Reason::Aborted)),
+        SeldomWord::Naming(word) => went(naming_word(registers, word, image, cells)),
+        SeldomWord::Compiling(word) => {
+            went(compiling_word(registers, word, image, cells, returns))
+        }
+        SeldomWord::Control(word) => went(building(registers, word, image, marks)),
+        SeldomWord::Vocabulary => went(vocabulary_word(registers, token, image)),
+        SeldomWord::Execute | SeldomWord::Unknown => Err(refusal(registers, Reason::BadToken)),
+    }
+}
