@@ -1,0 +1,74 @@
+-- The entry of a name that follows in the text.
+use Rattle.std.proofs.Common.{Bool, true, false, ltb, length, arith, ◌≡◌, ℕ, ◌+◌, ◌≤◌, List, Some, None, Ok, Err, Option, Result, sym, refl, ap, ◌∙◌, subst}
+use Rattle.fault.specs.declared.Fault.{Fault}
+use Rattle.fault.specs.declared.Reason.TheVariants.{NotFound, NothingFollows, BadName}
+use Rattle.fault.specs.Numbers.{fault_of}
+use Rattle.store.specs.Meaning.{Meaning}
+use Rattle.dictionary.specs.Dict.{Dict}
+use Rattle.dictionary.specs.Search.{searched}
+use Rattle.definition.specs.declared.registers.Mark.{Mark}
+use Rattle.definition.specs.declared.registers.Shared.{Shared}
+use Rattle.definition.specs.declared.ranged.Registers.{Registers}
+use Rattle.definition.specs.Machine.{Machine, dict_of}
+use Rattle.definition.specs.Asked.{Asked, given, ask, ◌>>=◌, ◌>>◌}
+use Rattle.definition.specs.Kernel
+use Rattle.definition.specs.Text.{Taken, next_word, is_name, take_name, ask_found, ask_there}
+use Rattle.definition.specs.Words.{Argument, argument, taken}
+use Rattle.steps.specs.Seats.{told_by}
+use Rattle.steps.specs.Does.{seen}
+use Rattle.texts.specs.declared.name.Name.{Name}
+use Rattle.texts.specs.Names.{name_of, TookName}
+use Rattle.finding.specs.Finding.{Answers, EntryInside}
+use Rattle.asking.proofs.Words.{refuses_on}
+use Rattle.finding_words.specs.Entries.{TookEntry}
+
+-- a name taken leaves the dictionary
+pub same_dict : (m : Machine) (t : Taken) → take_name m ≡ given t → dict_of t.machine ≡ dict_of m
+same_dict m t h = at (ltb 0 (length (next_word m).bytes)) (is_name (next_word m).bytes) h
+  where
+    at : (b c : Bool) → (ask m NothingFollows b >> (ask (next_word m).machine BadName c >> given (next_word m))) ≡ given t → dict_of t.machine ≡ dict_of m
+    at false c e = let z : ◌≡◌ {A = ℕ} 0 1 = cc in absurd (omega arith)
+    at true false e = let z : ◌≡◌ {A = ℕ} 0 1 = cc in absurd (omega arith)
+    at true true e = let z : next_word m ≡ t = cc in ap (λ (y : Taken). dict_of y.machine) (sym z)
+
+-- the rest once the name was taken
+abbrev there : Taken → Option ℕ → Asked Argument
+there t o = ask_there t.machine o >>= λ e. given (argument t e)
+
+abbrev found : Dict → Taken → Asked Argument
+found D t = ask_found t.machine (searched D t.bytes) >>= there t
+
+module _ (r r' : Registers) (i : List ℕ) where
+  pub no_name : (e : Fault) → TookName r i (Err e) r' → TookEntry r i (Err e) r'
+  unfolding taken
+  no_name e h = λ c t k s. refuses_on (take_name (seen r i c t k s)) (found (dict_of (seen r i c t k s))) e (seen r' i c t k s) (h c t k s)
+
+  module _ (n : Name) (w : List ℕ) (h : TookName r i (Ok n) r') (q : w ≡ name_of n) where
+    abbrev Searched : Result (Option ℕ) Fault → Type 0
+    Searched o = (c t : List ℕ) (k : List Mark) (s : Meaning) → Answers (ask_found (seen r' i c t k s) (searched (dict_of (seen r' i c t k s)) w)) o (seen r' i c t k s)
+
+    abbrev was : List ℕ → List ℕ → List Mark → Meaning → Taken
+    was c t k s = record { machine = seen r' i c t k s; bytes = w }
+
+    named : (c t : List ℕ) (k : List Mark) (s : Meaning) → taken Kernel.a_word (seen r i c t k s) ≡ found (dict_of (seen r' i c t k s)) (was c t k s)
+    unfolding taken
+    named c t k s =
+        ap (λ y. y >>= found (dict_of (seen r i c t k s))) (h c t k s)
+        ∙ ap (λ (y : List ℕ). found (dict_of (seen r i c t k s)) (record { machine = seen r' i c t k s; bytes = y })) (sym q)
+        ∙ ap (λ (D : Dict). found D (was c t k s)) (sym (same_dict (seen r i c t k s) _ (h c t k s)))
+
+    pub broken : (e : Fault) → Searched (Err e) → TookEntry r i (Err e) r'
+    broken e f = λ c t k s. rw (named c t k s) (refuses_on (ask_found (seen r' i c t k s) (searched (dict_of (seen r' i c t k s)) w)) (there (was c t k s)) e (seen r' i c t k s) (f c t k s))
+
+    searched_is : (o : Option ℕ) → Searched (Ok o) → (c t : List ℕ) (k : List Mark) (s : Meaning) → taken Kernel.a_word (seen r i c t k s) ≡ there (was c t k s) o
+    searched_is o f c t k s = named c t k s ∙ ap (λ (y : Asked (Option ℕ)). y >>= there (was c t k s)) (f c t k s)
+
+    pub not_found : (o : Option ℕ) (e : Fault) → o ≡ None → Searched (Ok o) → e ≡ fault_of NotFound (told_by r'.seat) → TookEntry r i (Err e) r'
+    not_found o e z f p = λ c t k s. rw (searched_is o f c t k s ∙ ap (there (was c t k s)) z) (p, refl)
+
+    pub at_entry : (o : Option ℕ) (x : ℕ) → o ≡ Some x → Searched (Ok o) → r'.shared ≡ r.shared → EntryInside r'.shared.ends.dp (Ok o) → TookEntry r i (Ok x) r'
+    at_entry o x z f p g =
+        let P : Option ℕ → Type 0 = λ y. EntryInside r'.shared.ends.dp (Ok y) in
+        let Q : ℕ → Type 0 = λ y. x + 7 ≤ y in
+        let l = subst P z g in
+        (l.0, subst Q (ap (λ (y : Shared). y.ends.dp) p) l.1, (w, λ c t k s. searched_is o f c t k s ∙ ap (there (was c t k s)) z))

@@ -1,0 +1,32 @@
+// The entry of a name that follows in the text.
+ghost use Rattle.std.specs.Prelude.{◌≡◌, ◌+◌, ◌≤◌};
+ghost use Rattle.entries.specs.Entries.{token_of};
+ghost use Rattle.finding_words.specs.Entries.{TookEntry};
+ghost use Rattle.image.specs.Views.{low_of};
+
+use definition::ranged::Registers;
+use entries::Entries;
+use fault::{Fault, Reason};
+use finding::searching::search;
+use steps::faults::refusal;
+use texts::names::take_name;
+
+// Takes a name, and finds its entry in the search order.
+pub fn take_entry(registers: &mut Registers, image: &[u8; 65536]) -> Result<u16, Fault>
+    ensures shared { registers.new.shared ≡ registers.old.shared }
+    ensures took { TookEntry registers.old image.now result registers.new }
+{
+    let name = take_name(registers, image)?;
+    match search(registers, image, name.text())? {
+        Some(entry) => Ok(entry),
+        None => Err(refusal(registers, Reason::NotFound)),
+    }
+}
+
+// Its token.
+pub fn token_at(registers: &Registers, image: &[u8; 65536], entry: u16) -> u16
+    requires { (258 ≤ entry) × (entry + 7 ≤ registers.now.shared.ends.dp) }
+    ensures { result ≡ token_of (low_of registers.now.shared.ends.dp image.now) entry }
+{
+    Entries::new(image, registers.shared.ends.dp).token_of(entry)
+}
