@@ -1,6 +1,7 @@
 // ' ( ['] and [COMPILE].
 ghost use Rattle.std.specs.Prelude.{◌≡◌, ℕ, List, take};
 ghost use Rattle.steps.specs.Does.{FromText};
+ghost use Rattle.texts.specs.Strings.{TookTo};
 
 use super::entry::{take_entry, token_at};
 use appending::{append, literal};
@@ -23,11 +24,18 @@ pub fn tick(
     cells::leave(registers, cells, token)
 }
 
+// The text of a comment, which may fill a block: a function, so that its limit is proved here and not in the word.
+fn take_comment(registers: &mut Registers, image: &[u8; 65536]) -> Result<(usize, usize), Fault>
+    ensures { TookTo 41 1024 registers.old image.now result registers.new }
+{
+    take_to(registers, image, b')', 1024)
+}
+
 // (
 pub fn comment(registers: &mut Registers, image: &[u8; 65536]) -> Result<(), Fault>
     ensures { (c : List ℕ) → FromText 62 registers.old image.now c result registers.new image.now c }
 {
-    take_to(registers, image, b')', 1024)?;
+    take_comment(registers, image)?;
     Ok(())
 }
 
