@@ -8,12 +8,17 @@ use Rattle.definition.specs.Machine.{Machine}
 use Rattle.definition.specs.Asked.{Asked, refused, given, ◌>>=◌, ◌>>◌, After, no_news}
 use Rattle.definition.specs.Words.{Argument, taken, all_asked, perform, do_kernel, row_of}
 use Rattle.steps.specs.Does.{seen, acts, Does, Did, IsRefused, FromText}
-use Rattle.asking.specs.Asking.{Took, NotTaken, StateAnswers}
+use Rattle.asking.specs.Asking.{Took, NotTaken, StateAnswers, NotReady}
 
 -- a refusal stays one, whatever was to follow
 pub refuses_on : {A B : Type 0} (x : Asked A) (g : A → Asked B) (e : Fault) (m : Machine) → IsRefused x e m → IsRefused (x >>= g) e m
 refuses_on (refused why m') g e m h = h
 refuses_on (given a) g e m h = absurd h
+
+-- also that of two things in turn
+refuses_both : {A B C : Type 0} (x : Asked A) (f : A → Asked B) (g : A → B → Asked C) (e : Fault) (m : Machine) → IsRefused (x >>= f) e m → IsRefused (x >>= λ a. f a >>= g a) e m
+refuses_both (refused why m') f g e m h = h
+refuses_both (given a) f g e m h = refuses_on (f a) (g a) e m h
 
 -- what a call did
 pub did_by : (f : Machine → Asked After) (m m' : Machine) (o : Result (Unit {0}) Fault) → Does f m o m' → Did (f m) o m'
@@ -27,6 +32,11 @@ module _ (n : ℕ) (r : Registers) (i c : List ℕ) where
   pub no_text : (r' : Registers) (e : Fault) → NotTaken (row_of n).takes r i e r' → FromText n r i c (Err e) r' i c
   unfolding do_kernel
   no_text r' e h = λ again t k s. refuses_on (taken (row_of n).takes (seen r i c t k s)) (rest n again) e (seen r' i c t k s) (h c t k s)
+
+  pub not_ready : (r' : Registers) (e : Fault) → NotReady (row_of n).takes (row_of n).asks r i e r' → FromText n r i c (Err e) r' i c
+  unfolding do_kernel
+  not_ready r' e h = λ again t k s.
+      refuses_both (taken (row_of n).takes (seen r i c t k s)) (λ a. all_asked (row_of n).asks a.machine) (λ a _. perform again (row_of n).action a a.machine) e (seen r' i c t k s) (h c t k s)
 
   module _ (r' : Registers) (bs : List ℕ) (x : ℕ) (h : Took (row_of n).takes r i bs x r') where
     abbrev was : List ℕ → List Mark → Meaning → Argument

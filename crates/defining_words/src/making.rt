@@ -1,0 +1,73 @@
+// Entries that are made or begun, as changes of the machine.
+ghost use Rattle.std.specs.Prelude.{◌≡◌, ◌+◌, take};
+ghost use Rattle.appending.specs.Spaces.{InSpace};
+ghost use Rattle.definition.specs.Define.{entry_size};
+ghost use Rattle.dictionary.specs.Dict.{colon_begun, defined, vocabulary_defined};
+ghost use Rattle.entries.specs.Entries.{spelled};
+ghost use Rattle.image.specs.Cells.{cell};
+ghost use Rattle.texts.specs.Names.{name_of};
+
+use definition::ranged::Registers;
+use dictionary::Header;
+use fault::Fault;
+use seat_dictionary::{dictionary_of, keep};
+use steps::faults::place;
+use texts::name::Name;
+
+// Makes the entry of a name, with one more parameter cell.
+pub(crate) fn define(
+    registers: &mut Registers,
+    image: &mut [u8; 65536],
+    name: &Name,
+    code: u16,
+    x: u16,
+) -> Result<(), Fault>
+    ensures did { InSpace (entry_size (name_of name.now) + 2) (defined registers.old.seat.source.position.blk 0 (spelled (name_of name.now)) code (cell x)) registers.old image.old result registers.new image.new }
+    ensures depths { registers.new.seat.depths ≡ registers.old.seat.depths }
+    ensures here { registers.new.shared.ends.here ≡ registers.old.shared.ends.here }
+    ensures below { take 256 image.new ≡ take 256 image.old }
+{
+    let mut d = dictionary_of(registers);
+    let header = Header {
+        view: registers.seat.source.position.blk,
+        flags: 0,
+        name: name.text(),
+        code,
+    };
+    d.define(image, &header, &x.to_le_bytes(), place(registers))?;
+    keep(registers, d);
+    Ok(())
+}
+
+// Makes a vocabulary.
+pub(crate) fn define_vocabulary(
+    registers: &mut Registers,
+    image: &mut [u8; 65536],
+    name: &Name,
+) -> Result<(), Fault>
+    ensures did { InSpace (entry_size (name_of name.now) + 10) (vocabulary_defined registers.old.seat.source.position.blk (spelled (name_of name.now))) registers.old image.old result registers.new image.new }
+    ensures below { take 256 image.new ≡ take 256 image.old }
+{
+    let mut d = dictionary_of(registers);
+    let view = registers.seat.source.position.blk;
+    d.define_vocabulary(image, view, name.text(), place(registers))?;
+    keep(registers, d);
+    Ok(())
+}
+
+// Begins the entry of a colon word.
+pub(crate) fn begin_colon(
+    registers: &mut Registers,
+    image: &mut [u8; 65536],
+    name: &Name,
+) -> Result<(), Fault>
+    requires { registers.old.shared.names.opened ≡ 0 }
+    ensures did { InSpace (entry_size (name_of name.now)) (colon_begun registers.old.seat.source.position.blk (spelled (name_of name.now))) registers.old image.old result registers.new image.new }
+    ensures below { take 256 image.new ≡ take 256 image.old }
+{
+    let mut d = dictionary_of(registers);
+    let view = registers.seat.source.position.blk;
+    d.begin_colon(image, view, name.text(), place(registers))?;
+    keep(registers, d);
+    Ok(())
+}
