@@ -14,6 +14,13 @@ use seat_dictionary::{dictionary_of, keep};
 use steps::faults::place;
 use texts::name::Name;
 
+// The view of an entry that begins: BLK.
+fn view(registers: &Registers) -> u16
+    ensures { result ≡ registers.now.seat.source.position.blk }
+{
+    registers.seat.source.position.blk
+}
+
 // Makes the entry of a name, with one more parameter cell.
 pub(crate) fn define(
     registers: &mut Registers,
@@ -29,7 +36,7 @@ pub(crate) fn define(
 {
     let mut d = dictionary_of(registers);
     let header = Header {
-        view: registers.seat.source.position.blk,
+        view: view(registers),
         flags: 0,
         name: name.text(),
         code,
@@ -49,8 +56,7 @@ pub(crate) fn define_vocabulary(
     ensures below { take 256 image.new ≡ take 256 image.old }
 {
     let mut d = dictionary_of(registers);
-    let view = registers.seat.source.position.blk;
-    d.define_vocabulary(image, view, name.text(), place(registers))?;
+    d.define_vocabulary(image, view(registers), name.text(), place(registers))?;
     keep(registers, d);
     Ok(())
 }
@@ -66,8 +72,7 @@ pub(crate) fn begin_colon(
     ensures below { take 256 image.new ≡ take 256 image.old }
 {
     let mut d = dictionary_of(registers);
-    let view = registers.seat.source.position.blk;
-    d.begin_colon(image, view, name.text(), place(registers))?;
+    d.begin_colon(image, view(registers), name.text(), place(registers))?;
     keep(registers, d);
     Ok(())
 }

@@ -16,12 +16,12 @@ returns-in_err-begin_colon-clause-did c =
     let view = c.args.registers.now.seat.source.position.blk in
     rw (p.1, p.2)
     (full c.args.registers.now c.args.image.now c.begin_colon.new.image c.dictionary_of-d.result c.begin_colon.new.self c.told-image c.begin_colon.array_long (record { ends = c.dictionary_of-d.ensures.ends; names = c.dictionary_of-d.ensures.names; order = c.dictionary_of-d.ensures.order }) c.in_err-begin_colon.ensures.rest (entry_size name) (colon_begun view (spelled name)) c.place.result c.place.ensures _
-    (colon_made c.place.result (dict_of c.dictionary_of-d.result c.args.image.now) (dict_of c.begin_colon.new.self c.begin_colon.new.image) (Err _) view c.text.result.now name c.text.ensures.value c.in_err-begin_colon.ensures.did))
+    (colon_made c.place.result (dict_of c.dictionary_of-d.result c.args.image.now) (dict_of c.begin_colon.new.self c.begin_colon.new.image) (Err _) c.view.result view c.view.ensures c.text.result.now name c.text.ensures.value c.in_err-begin_colon.ensures.did))
 
 pub returns-clause-did : goal.returns-clause-did
 returns-clause-did c =
     let name = name_of c.args.name.now in
     let view = c.args.registers.now.seat.source.position.blk in
     done c.args.registers.now c.args.image.now c.begin_colon.new.image c.dictionary_of-d.result c.begin_colon.new.self c.told-image c.begin_colon.array_long (record { ends = c.dictionary_of-d.ensures.ends; names = c.dictionary_of-d.ensures.names; order = c.dictionary_of-d.ensures.order }) c.in_ok-begin_colon.ensures.rest (entry_size name) (colon_begun view (spelled name)) c.place.result c.place.ensures c.keep.new.registers
-    (colon_made c.place.result (dict_of c.dictionary_of-d.result c.args.image.now) (dict_of c.begin_colon.new.self c.begin_colon.new.image) (Ok tt) view c.text.result.now name c.text.ensures.value c.in_ok-begin_colon.ensures.did)
+    (colon_made c.place.result (dict_of c.dictionary_of-d.result c.args.image.now) (dict_of c.begin_colon.new.self c.begin_colon.new.image) (Ok tt) c.view.result view c.view.ensures c.text.result.now name c.text.ensures.value c.in_ok-begin_colon.ensures.did)
     (record { shared = c.keep.ensures.shared; seat = c.keep.ensures.seat }) (λ x. refl)

@@ -18,12 +18,12 @@ returns-in_err-define-clause-did c =
     let view = c.args.registers.now.seat.source.position.blk in
     rw (p.1, p.2)
     (full c.args.registers.now c.args.image.now c.define.new.image c.dictionary_of-d.result c.define.new.self c.told-image c.define.array_long (record { ends = c.dictionary_of-d.ensures.ends; names = c.dictionary_of-d.ensures.names; order = c.dictionary_of-d.ensures.order }) c.in_err-define.ensures.rest (entry_size name + 2) (defined view 0 (spelled name) c.args.code (cell c.args.x)) c.place.result c.place.ensures _
-    (entry_made c.place.result (dict_of c.dictionary_of-d.result c.args.image.now) (dict_of c.define.new.self c.define.new.image) (Err _) view c.text.result.now name c.text.ensures.value c.args.code c.args.x c.to_le_bytes.result (c.to_le_bytes.ensures ∙ le_bytes_are_cell c.args.x c.ranges.x.fits) c.in_err-define.ensures.did))
+    (entry_made c.place.result (dict_of c.dictionary_of-d.result c.args.image.now) (dict_of c.define.new.self c.define.new.image) (Err _) c.view.result view c.view.ensures c.text.result.now name c.text.ensures.value c.args.code c.args.x c.to_le_bytes.result (c.to_le_bytes.ensures ∙ le_bytes_are_cell c.args.x c.ranges.x.fits) c.in_err-define.ensures.did))
 
 pub returns-clause-did : goal.returns-clause-did
 returns-clause-did c =
     let name = name_of c.args.name.now in
     let view = c.args.registers.now.seat.source.position.blk in
     done c.args.registers.now c.args.image.now c.define.new.image c.dictionary_of-d.result c.define.new.self c.told-image c.define.array_long (record { ends = c.dictionary_of-d.ensures.ends; names = c.dictionary_of-d.ensures.names; order = c.dictionary_of-d.ensures.order }) c.in_ok-define.ensures.rest (entry_size name + 2) (defined view 0 (spelled name) c.args.code (cell c.args.x)) c.place.result c.place.ensures c.keep.new.registers
-    (entry_made c.place.result (dict_of c.dictionary_of-d.result c.args.image.now) (dict_of c.define.new.self c.define.new.image) (Ok tt) view c.text.result.now name c.text.ensures.value c.args.code c.args.x c.to_le_bytes.result (c.to_le_bytes.ensures ∙ le_bytes_are_cell c.args.x c.ranges.x.fits) c.in_ok-define.ensures.did)
+    (entry_made c.place.result (dict_of c.dictionary_of-d.result c.args.image.now) (dict_of c.define.new.self c.define.new.image) (Ok tt) c.view.result view c.view.ensures c.text.result.now name c.text.ensures.value c.args.code c.args.x c.to_le_bytes.result (c.to_le_bytes.ensures ∙ le_bytes_are_cell c.args.x c.ranges.x.fits) c.in_ok-define.ensures.did)
     (record { shared = c.keep.ensures.shared; seat = c.keep.ensures.seat }) (λ x. refl)
