@@ -19,17 +19,9 @@ use Rattle.steps.specs.Does.{seen}
 use Rattle.texts.specs.declared.name.Name.{Name}
 use Rattle.texts.specs.Names.{name_of, TookName}
 use Rattle.finding.specs.Finding.{Answers, EntryInside}
+use Rattle.asking.proofs.Names.{same_dict}
 use Rattle.asking.proofs.Words.{refuses_on}
 use Rattle.finding_words.specs.Entries.{TookEntry}
-
--- a name taken leaves the dictionary
-pub same_dict : (m : Machine) (t : Taken) → take_name m ≡ given t → dict_of t.machine ≡ dict_of m
-same_dict m t h = at (ltb 0 (length (next_word m).bytes)) (is_name (next_word m).bytes) h
-  where
-    at : (b c : Bool) → (ask m NothingFollows b >> (ask (next_word m).machine BadName c >> given (next_word m))) ≡ given t → dict_of t.machine ≡ dict_of m
-    at false c e = let z : ◌≡◌ {A = ℕ} 0 1 = cc in absurd (omega arith)
-    at true false e = let z : ◌≡◌ {A = ℕ} 0 1 = cc in absurd (omega arith)
-    at true true e = let z : next_word m ≡ t = cc in ap (λ (y : Taken). dict_of y.machine) (sym z)
 
 -- the rest once the name was taken
 abbrev there : Taken → Option ℕ → Asked Argument

@@ -1,4 +1,5 @@
-// The words that take a name: so far only what they are called.
+// The words that take a name or a text, as one group.
 #![tactic(auto)]
 
+pub mod naming;
 pub mod words;
