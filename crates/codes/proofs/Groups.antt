@@ -31,7 +31,7 @@ module _ (num code t : ℕ) (r r' : Registers) (o : Result (Unit {0}) Fault) (p 
   coded_performs h = at_code num code t r r' (memory i c e k out n s) (memory i' c' e' k' out n s') o p q f (λ again. quiet (coded again num t) r r' i c e i' c' e' k k' s s' out n o (h again))
 
   -- by its row of the kernel table, where it asks nothing of the state
-  acts_performs : Asking num [] → ((again : ℕ → Machine → Asked After) → Did (acts num again (bare (seen r i c e k s)) (seen r i c e k s)) o (seen r' i' c' e' k' s')) → Performs code t r (memory i c e k out n s) p r' (memory i' c' e' k' out n s')
+  pub acts_performs : Asking num [] → ((again : ℕ → Machine → Asked After) → Did (acts num again (bare (seen r i c e k s)) (seen r i c e k s)) o (seen r' i' c' e' k' s')) → Performs code t r (memory i c e k out n s) p r' (memory i' c' e' k' out n s')
   acts_performs a h = coded_performs (λ again. plain_did num t a again (seen r i c e k s) (seen r' i' c' e' k' s') o (h again))
 
   pub does_performs : (leb 1 num && leb num 105) ≡ true → ((again : ℕ → Machine → Asked After) → Did (do_kernel again (row_of num) (seen r i c e k s)) o (seen r' i' c' e' k' s')) → Performs code t r (memory i c e k out n s) p r' (memory i' c' e' k' out n s')
