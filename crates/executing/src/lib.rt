@@ -1,4 +1,6 @@
 // Executing a token.
 #![tactic(auto)]
 
+pub mod execution;
+mod performing;
 mod tokens;
