@@ -1,5 +1,5 @@
 -- What the questions before a trim say, and what the trim makes.
-use Rattle.std.proofs.Common.{◌≡◌, ℕ, ◌+◌, ◌-◌, ◌<◌, ◌≤◌, true, cond, ◌||◌, ltb, leb, ◌⊎◌, List, length, take, sym, ap, ◌∙◌, subst, inl, inr, arith}
+use Rattle.std.proofs.Common.{◌≡◌, ℕ, ◌+◌, ◌-◌, ◌<◌, ◌≤◌, true, cond, ◌||◌, ltb, leb, ◌⊎◌, List, length, take, sym, refl, ap, ◌∙◌, subst, inl, inr, arith}
 use Rattle.std.proofs.lemmas.Bool.Decides.{nat_tests}
 use Rattle.std.proofs.lemmas.Bool.{and_parts, or_cases, leb-true, ltb-true}
 use Rattle.image.specs.Cells.{cell_at}
@@ -7,6 +7,7 @@ use Rattle.image.specs.Views.{low_of}
 use Rattle.image.proofs.Laws.{length_low}
 use Rattle.entries.specs.Entries.{first_at, name_length}
 use Rattle.dictionary.specs.Dict.{Dict}
+use Rattle.dictionary.specs.Kept.{kept_end}
 use Rattle.dictionary.specs.Trim.{ordered, chain, left, link_of, trim_vocs, youngest, chained, can_forget, forgotten}
 use Rattle.dictionary.specs.Lent.{dict_of}
 use Rattle.dictionary.specs.declared.registers.Dictionary.{Dictionary}
@@ -41,16 +42,18 @@ abbrev built : List ℕ → ℕ → ℕ → ℕ → ℕ → ℕ → ℕ → Dict
 built low here voc_link newest context current opened = record { low = low; here = here; voc_link = voc_link; newest = newest; context = context; current = current; opened = opened }
 
 -- the trim's dictionary from its parts
-pub trim_makes : (w dp : ℕ) (D : Dict) (low : List ℕ) (here first newest context : ℕ) → length D.low ≡ dp
+pub trim_makes : (w dp : ℕ) (D : Dict) (low : List ℕ) (here first voc_link newest context opened : ℕ) → length D.low ≡ dp
     → Kept D.low w dp first (left w (chain dp D.low D.voc_link))
     → low ≡ take (w - 2) (trim_vocs w (chain dp D.low first) D.low)
     → here ≡ cell_at D.low (first_at D.low w)
     → first ≡ link_of (left w (chain dp D.low D.voc_link))
+    → voc_link ≡ first
     → newest ≡ youngest (chain dp D.low first) (take (w - 2) (trim_vocs w (chain dp D.low first) D.low))
     → context ≡ cond (ltb w D.context) 270 D.context
-    → built low here first newest context D.current 0 ≡ forgotten w D
+    → opened ≡ 0
+    → built low here voc_link newest context D.current opened ≡ forgotten w D
 unfolding forgotten
-trim_makes w dp D low here first newest context l k a b c d e =
+trim_makes w dp D low here first voc_link newest context opened l k a b c v d e o =
     let s = kept_chain D.low w dp first dp _ (omega arith) k in
     let n : left w (chain (length D.low) D.low D.voc_link) ≡ left w (chain dp D.low D.voc_link) = ap (λ j. left w (chain j D.low D.voc_link)) l in
     cc
@@ -67,6 +70,10 @@ kept_now low w dp k vs h = subst (Kept low w dp k) (sym (kept_chain low w dp k d
 
 pub cut_to : (k n : ℕ) (image final : List ℕ) → 256 ≤ k → k ≤ n → n ≤ length image → low_of n image ≡ final → low_of k image ≡ take k final
 cut_to k n image final b h l e = low_cut k n image b h l ∙ ap (take k) e
+
+-- with no open entry the dictionary stays up to DP
+pub shut_end : (dp opened : ℕ) → opened ≡ 0 → kept_end dp opened ≡ dp
+shut_end dp opened e = rw e refl
 
 -- what was asked before the trim
 pub record Asked (fence w dp : ℕ) (D : Dict) : Type 0 where

@@ -44,6 +44,15 @@ impl<'a> Falling<'a> {
         Some(e)
     }
 
+    // The entry that a head names once it has moved down below w.
+    #[tactic(auto, using(crate::proofs::FallLaws::fell_fall))]
+    fn fallen(&self, head: u16) -> u16
+        requires { is_some (fell self.now.entries self.now.w head) ≡ true }
+        ensures { result ≡ fall (length self.now.entries) self.now.entries self.now.w head }
+    {
+        self.first_below(head).unwrap()
+    }
+
     // Are the links from a head down in order, and the first entry below w too?
     fn falls(&self, head: u16) -> bool
         ensures { result ≡ lands self.now.entries (fell self.now.entries self.now.w head) }
@@ -71,8 +80,16 @@ fn lower(d: &Dictionary, image: &mut [u8; 65536], w: u16, a: u16)
     ensures rest { Outside image.old image.new }
 {
     let falling = Falling::new(d, image, w);
-    let x = falling.first_below(falling.entries.cell(a)).unwrap();
+    let x = falling.fallen(falling.entries.cell(a));
     d.patch(image, a, x);
+}
+
+// The head of a thread, by its number.
+fn head_of(vocabulary: u16, thread: u16) -> u16
+    requires { (vocabulary ≤ 32768) × (thread < 4) }
+    ensures { result ≡ vocabulary + 2 * thread }
+{
+    vocabulary + 2 * thread
 }
 
 // Moves the four heads of a vocabulary, by number: each is written, and the definition goes from the last.
@@ -82,7 +99,7 @@ pub(crate) fn lower_threads(d: &Dictionary, image: &mut [u8; 65536], w: u16, voc
     ensures rest { Outside image.old image.new }
 {
     for k in (0..4).rev() {
-        lower(d, image, w, vocabulary + 2 * k);
+        lower(d, image, w, head_of(vocabulary, k));
     }
 }
 
