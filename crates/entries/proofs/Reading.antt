@@ -1,9 +1,9 @@
 -- Laws of the bytes that are seen.
 use Rattle.std.proofs.Common.{◌≡◌, ℕ, ◌+◌, ◌-◌, ◌<◌, ◌≤◌, max, List, length, get_or, take, drop, sym, ap, ◌∙◌, arith}
 use Rattle.std.proofs.lemmas.List.{length-append, length-take, length-drop}
-use Rattle.image.specs.Cells.{zeros}
+use Rattle.image.specs.Cells.{cell_at, zeros}
 use Rattle.image.specs.Views.{low_of}
-use Rattle.image.proofs.Laws.{get_or_low}
+use Rattle.image.proofs.Laws.{get_or_low, cell_low}
 
 -- how many there are
 seen_size : (dp : ℕ) (xs : List ℕ) → length (low_of dp xs) ≡ 256 + (length (take dp xs) - 256)
@@ -21,3 +21,11 @@ seen_at dp xs low a e b h =
     let l = ap length e in
     let d : a < dp = omega arith in
     (d, omega arith, sym (get_or_low dp xs a b d) ∙ ap (λ s. get_or s a 0) e)
+
+-- a cell of them lies in the image
+pub cell_within : (dp : ℕ) (xs low : List ℕ) (a : ℕ) → low_of dp xs ≡ low → 256 ≤ a → a + 1 < length low → a + 1 < length xs
+cell_within dp xs low a e b h = (seen_at dp xs low (a + 1) e (omega arith) h).1
+
+pub seen_cell : (dp : ℕ) (xs low : List ℕ) (a : ℕ) → low_of dp xs ≡ low → 256 ≤ a → a + 1 < length low → cell_at xs a ≡ cell_at low a
+seen_cell dp xs low a e b h =
+    sym (cell_low dp xs a b (seen_at dp xs low (a + 1) e (omega arith) h).0) ∙ ap (λ s. cell_at s a) e

@@ -32,6 +32,7 @@ impl<'a> Model for Entries<'a> {
 }
 
 impl<'a> Entries<'a> {
+    #[tactic(auto, using(crate::proofs::Reading::length_seen))]
     pub fn new(image: &'a [u8; 65536], dp: u16) -> Self
         ensures bytes { result ≡ low_of dp image.now }
         ensures size { length result ≡ max 256 dp }
@@ -40,6 +41,7 @@ impl<'a> Entries<'a> {
     }
 
     // Where the dictionary ends: DP, or 256 if DP lies below.
+    #[tactic(auto, using(crate::proofs::Reading::length_seen))]
     pub fn end(&self) -> u16
         ensures end { result ≡ length self.now }
         ensures low { 256 ≤ result }
@@ -48,6 +50,7 @@ impl<'a> Entries<'a> {
     }
 
     // A byte of the dictionary.
+    #[tactic(auto, using(crate::proofs::Reading::seen_at))]
     pub fn byte(&self, a: u16) -> u8
         requires { (256 ≤ a) × (a < length self.now) }
         ensures { result ≡ at self.now a }
@@ -56,6 +59,7 @@ impl<'a> Entries<'a> {
     }
 
     // A cell of the dictionary.
+    #[tactic(auto, using(crate::proofs::Reading::seen_cell))]
     pub fn cell(&self, a: u16) -> u16
         requires { (256 ≤ a) × (a + 1 < length self.now) }
         ensures { result ≡ cell_at self.now a }
@@ -65,6 +69,7 @@ impl<'a> Entries<'a> {
     }
 
     // The count byte of an entry.
+    #[tactic(auto, using(crate::proofs::Reading::seen_at))]
     fn count(&self, entry: u16) -> u8
         requires { (256 ≤ entry) × (entry + 2 < length self.now) }
         ensures { result ≡ at self.now (entry + 2) }
@@ -81,6 +86,7 @@ impl<'a> Entries<'a> {
     }
 
     // Where an entry's first parameter cell lies.
+    #[tactic(auto, unfolding(crate::specs::Entries::first_at))]
     pub fn first_parameter(&self, entry: u16) -> u16
         requires { (256 ≤ entry) × ((entry + 2 < length self.now) × (length self.now ≤ 32768)) }
         ensures first { result ≡ first_at self.now entry }

@@ -1,8 +1,0 @@
-use Rattle.std.proofs.Common.{get_or, ap, ◌∙◌, arith}
-use Rattle.entries.proofs.Reading.{seen_at}
-use Rattle.entries.proofs.entry.Entries.byte.Goals as goal
-
-pub returns : goal.returns
-returns c =
-    let s = seen_at c.self.inside.dp c.self.inside.image.now c.args.self.now c.args.a c.self.view_is (omega arith) (omega arith) in
-    ap (λ i. get_or c.self.inside.image.now i 0) c.from.ensures ∙ s.2
