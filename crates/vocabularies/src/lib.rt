@@ -2,7 +2,7 @@
 // walked by a loop, as a thread is.
 #![tactic(auto)]
 
-ghost use Rattle.std.specs.Prelude.{◌≡◌, ◌+◌, ◌<◌, ◌≤◌, ◌&&◌, IfOk, IfSome, nat_le};
+ghost use Rattle.std.specs.Prelude.{◌≡◌, ◌+◌, ◌-◌, ◌<◌, ◌≤◌, ◌&&◌, IfOk, IfSome, nat_le};
 ghost use Rattle.dictionary.specs.Kept.{kept_end};
 ghost use Rattle.dictionary.specs.Lent.{Did, dict_of};
 ghost use Rattle.entries.specs.Threads.{answered};
@@ -13,7 +13,6 @@ use dictionary::registers::Dictionary;
 use fault::{Fault, Place, Reason};
 
 // The vocabulary link that a link names, `before` being the one that holds it (DP for VOC-LINK); nothing at the chain's end.
-// The vocabulary is named by the address of its first head, 8 below its link.
 pub fn next_vocabulary(dp: u16, before: u16, link: u16, told: Place) -> Result<Option<u16>, Fault>
     requires { (dp ≤ 32768) × (before ≤ dp) }
     ensures answer { result ≡ answered told (vocabulary_linked dp before link) }
@@ -26,6 +25,14 @@ pub fn next_vocabulary(dp: u16, before: u16, link: u16, told: Place) -> Result<O
         return Err(Fault::new(Reason::BrokenLink, told));
     }
     Ok(Some(link))
+}
+
+// The vocabulary of a link, by the address of its first head.
+fn vocabulary_of(link: u16) -> u16
+    requires { 8 ≤ link }
+    ensures { result ≡ link - 8 }
+{
+    link - 8
 }
 
 // Is the vocabulary on the chain?
@@ -42,7 +49,7 @@ pub fn is_on_chain(
     let mut before = d.ends.dp;
     let mut link = d.names.voclink;
     'chain: while let Some(k) = next_vocabulary(d.ends.dp, before, link, told)? {
-        found |= vocabulary == k - 8;
+        found |= vocabulary == vocabulary_of(k);
         before = k;
         link = entries.cell(k);
     }

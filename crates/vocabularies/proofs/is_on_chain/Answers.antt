@@ -1,4 +1,4 @@
-use Rattle.std.proofs.Common.{refl, ap, ◌∙◌, arith}
+use Rattle.std.proofs.Common.{◌||◌, eqb, ap, ◌∙◌, arith}
 use Rattle.std.proofs.lemmas.Result.{err_from_is_err_and}
 use Rattle.image.proofs.Laws.{length_low}
 use Rattle.image.specs.Cells.{cell_at}
@@ -20,7 +20,7 @@ chain-preserved c =
     let w = c.in_ok-k.was in
     let s = link_some c.args.told c.args.d.now.ends.dp c.chain.before c.chain.link c.in-Some.k (cc) in
     let p = link_parts c.args.d.now.ends.dp c.chain.before c.chain.link s.2 in
-    (omega arith, walking_more _ _ _ _ c.chain.link c.in-Some.k _ _ _ _ _ c.chain.invariant.1 s.0 s.1 s.2 refl (c.cell-link.ensures ∙ ap (λ s. cell_at s c.in-Some.k) c.entries-entries.ensures.bytes))
+    (omega arith, walking_more _ _ _ _ c.chain.link c.in-Some.k _ _ _ _ _ c.chain.invariant.1 s.0 s.1 s.2 (ap (λ v. c.chain.found || eqb c.args.vocabulary v) c.vocabulary_of.ensures) (c.cell-link.ensures ∙ ap (λ s. cell_at s c.in-Some.k) c.entries-entries.ensures.bytes))
 
 pub returns : goal.returns
 returns c =
