@@ -6,7 +6,7 @@ use kernel::boot;
 use std::process::Abort;
 
 // The registers that a session leaves.
-#[derive(Clone, Copy, Debug, PartialEq, Eq)]
+#[derive(Clone, Copy, PartialEq, Eq)]
 pub(crate) struct Left {
     pub(crate) dp: u16,
     pub(crate) here: u16,
@@ -42,7 +42,7 @@ impl Left {
 }
 
 // What a search through CONTEXT, CURRENT and FORTH answers.
-#[derive(Clone, Copy, Debug, PartialEq, Eq)]
+#[derive(Clone, Copy, PartialEq, Eq)]
 pub(crate) enum Answer {
     At(u16),
     Missing,
@@ -88,20 +88,22 @@ fn search(d: &Dictionary, image: &[u8; 65536], name: &str) -> Answer {
     }
 }
 
+// Does a session leave what it must?
+fn holds(session: &Session) -> bool {
+    let mut image = [0; 65536];
+    let mut d = boot(&mut image);
+    let answer = play(&mut d, &mut image, session.moves);
+    answer == (session.moves.len(), session.refused)
+        && Left::of(&d) == session.left
+        && session
+            .names
+            .iter()
+            .all(|(name, found)| search(&d, &image, name) == *found)
+}
+
 // Plays sessions, each from boot on.
 pub(crate) fn hold(rt: &impl Abort, sessions: &[Session]) {
     for (i, session) in sessions.iter().enumerate() {
-        let mut image = [0; 65536];
-        let mut d = boot(&mut image);
-        let answer = play(&mut d, &mut image, session.moves);
-        assert_eq!(rt;
-            answer,
-            (session.moves.len(), session.refused),
-            "session {i}"
-        );
-        assert_eq!(rt; Left::of(&d), session.left, "session {i}");
-        for (name, found) in session.names {
-            assert_eq!(rt; search(&d, &image, name), *found, "session {i}, {name}");
-        }
+        assert!(rt; holds(session), "session {i}");
     }
 }
