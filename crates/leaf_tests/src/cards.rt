@@ -59,7 +59,10 @@ fn memory_cards(rt: HostRuntime) {
         (2047, 0, (26, 7)),
         (0, 0, (26, 7)),
     ] {
-        assert_eq!(rt; memory_card(length, n), answer);
+        assert!(rt;
+            memory_card(length, n) == answer,
+            "{length} bytes, block {n}"
+        );
     }
     for (locked, n, answer) in [
         (true, 1, (27, 0)),
@@ -67,7 +70,7 @@ fn memory_cards(rt: HostRuntime) {
         (false, 1, (0, 1)),
         (false, 2, (26, 0)),
     ] {
-        assert_eq!(rt; switched_card(locked, n), answer);
+        assert!(rt; switched_card(locked, n) == answer, "block {n}");
     }
 }
 
@@ -82,7 +85,10 @@ fn text_cards(rt: HostRuntime) -> Result<(), Fail> {
         (0, 130, (27, 32)),
         (0, 1023, (27, 32)),
     ] {
-        assert_eq!(rt; text_card(rt.alloc(), text, n, i)?, answer);
+        assert!(rt;
+            text_card(rt.alloc(), text, n, i)? == answer,
+            "block {n}, byte {i}"
+        );
     }
     let lines: [(&[u8], Option<usize>); 3] = [
         (b"", None),
@@ -96,7 +102,7 @@ fn text_cards(rt: HostRuntime) -> Result<(), Fail> {
         ),
     ];
     for (text, place) in lines {
-        assert_eq!(rt; first_long_line(text), place);
+        assert!(rt; first_long_line(text) == place);
     }
     Ok(())
 }

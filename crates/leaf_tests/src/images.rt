@@ -5,12 +5,12 @@ use image::{append, fetch, fill, move_up, store};
 fn bytes_and_cells(rt: HostRuntime) {
     let mut image = [0u8; 8];
     store(&mut image, 2, 0x1234);
-    assert_eq!(rt; image, [0, 0, 0x34, 0x12, 0, 0, 0, 0]);
+    assert!(rt; image == [0, 0, 0x34, 0x12, 0, 0, 0, 0]);
     assert_eq!(rt; fetch(&image, 1), 0x3400);
     fill(&mut image, 5, 2, 9);
-    assert_eq!(rt; image, [0, 0, 0x34, 0x12, 0, 9, 9, 0]);
+    assert!(rt; image == [0, 0, 0x34, 0x12, 0, 9, 9, 0]);
     assert_eq!(rt; append(&mut image, 6, b"AB"), 8);
-    assert_eq!(rt; image, [0, 0, 0x34, 0x12, 0, 9, 65, 66]);
+    assert!(rt; image == [0, 0, 0x34, 0x12, 0, 9, 65, 66]);
 }
 
 // Down it copies, up by one it repeats the first byte.
@@ -18,7 +18,7 @@ fn bytes_and_cells(rt: HostRuntime) {
 fn moves(rt: HostRuntime) {
     let mut image = *b"ABCDEF";
     move_up(&mut image, 2, 0, 3);
-    assert_eq!(rt; image, *b"CDEDEF");
+    assert!(rt; image == *b"CDEDEF");
     move_up(&mut image, 0, 1, 4);
-    assert_eq!(rt; image, *b"CCCCCF");
+    assert!(rt; image == *b"CCCCCF");
 }

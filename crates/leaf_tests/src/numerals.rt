@@ -75,10 +75,10 @@ const PRINTINGS: [(u16, u16, &[u8], &[u8]); 7] = [
 #[test]
 fn divides(rt: HostRuntime) {
     for (a, b, answer) in QUOTIENTS {
-        assert_eq!(rt; divide(a, b), answer);
+        assert!(rt; divide(a, b) == answer, "{a} by {b}");
     }
     for (a, b, c, answer) in SCALED {
-        assert_eq!(rt; divide_product(a, b, c), answer);
+        assert!(rt; divide_product(a, b, c) == answer, "{a} times {b} by {c}");
     }
 }
 
@@ -101,8 +101,8 @@ fn prints_unsigned(rt: &impl Abort, base: u16, value: u16, text: &[u8]) {
 
 #[test]
 fn reads(rt: HostRuntime) {
-    for (base, text, answer) in READINGS {
-        assert_eq!(rt; read_number(base, text), answer);
+    for (i, (base, text, answer)) in READINGS.iter().enumerate() {
+        assert!(rt; read_number(*base, text) == *answer, "reading {i}");
     }
 }
 

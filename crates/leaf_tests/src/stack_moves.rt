@@ -2,7 +2,7 @@
 use stacks::{drop_top, pick, push, roll};
 
 // A pair as a mark is: these tests rest on the leaf crates alone.
-#[derive(Clone, Copy, PartialEq, Eq, Debug)]
+#[derive(Clone, Copy, PartialEq, Eq)]
 struct Mark {
     kind: u8,
     at: u16,
@@ -18,7 +18,7 @@ fn cells(rt: HostRuntime) {
     assert_eq!(rt; pick(&cells, depth, 0), 30);
     assert_eq!(rt; pick(&cells, depth, 2), 10);
     roll(&mut cells, depth, 2);
-    assert_eq!(rt; cells, [20, 30, 10, 0]);
+    assert!(rt; cells == [20, 30, 10, 0]);
     let depth = drop_top(&cells, depth, 1);
     assert_eq!(rt; pick(&cells, depth, 0), 30);
 }
