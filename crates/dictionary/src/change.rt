@@ -10,6 +10,14 @@ use super::code;
 use super::registers::Dictionary;
 use entries::IMMEDIATE;
 
+// The count byte of an entry that becomes immediate.
+#[tactic(auto, using(crate::proofs::Changing::or_is_marked))]
+fn immediate(count: u8) -> u8
+    ensures { result ≡ marked count }
+{
+    count | IMMEDIATE
+}
+
 impl Dictionary {
     // Writes a cell of the dictionary.
     pub fn patch(&self, image: &mut [u8; 65536], a: u16, x: u16)
@@ -26,7 +34,8 @@ impl Dictionary {
         ensures made { dict_of self.now image.new ≡ immediate_marked (dict_of self.now image.old) }
         ensures rest { Outside image.old image.new }
     {
-        image[usize::from(self.names.newest) + 2] |= IMMEDIATE;
+        let count = usize::from(self.names.newest) + 2;
+        image[count] = immediate(image[count]);
     }
 
     // Gives the newest entry, a created word, the DOES> code at an address.

@@ -1,7 +1,7 @@
 // Entries begun and joined. A cast loses nothing: a name has at most 31 bytes.
-ghost use Rattle.std.specs.Prelude.{◌≡◌, ◌+◌, ◌-◌, ◌<◌, ◌≤◌, [], ◌++◌, length, OnOk};
-ghost use Rattle.dictionary.specs.Dict.{begun, colon_begun, defined, open_joined, vocabulary_defined};
-ghost use Rattle.dictionary.specs.Lent.{Did, Outside, dict_of, with_room};
+ghost use Rattle.std.specs.Prelude.{◌≡◌, ◌+◌, ◌-◌, ◌*◌, ◌<◌, ◌≤◌, [], ◌++◌, length, OnOk};
+ghost use Rattle.dictionary.specs.Dict.{begun, colon_begun, defined, open_joined, vocabulary_defined, with_opened};
+ghost use Rattle.dictionary.specs.Lent.{Changed, Did, Outside, dict_of, with_room};
 ghost use Rattle.dictionary.specs.Begins.{head_joined, headed_by};
 ghost use Rattle.entries.specs.Entries.{count_byte, spelled};
 ghost use Rattle.entries.specs.Threads.{Ascii};
@@ -26,7 +26,38 @@ pub struct Header<'a> {
     ghost text: { Ascii name.now },
 }
 
+impl<'a> Header<'a> {
+    // The count byte: 128, the flags, and the name's length.
+    fn count_byte(&self) -> u8
+        ensures { result ≡ count_byte self.now.flags self.now.name.now }
+    {
+        128 + self.flags + self.name.len() as u8
+    }
+}
+
 impl Dictionary {
+    // The head of a thread of CURRENT.
+    fn head_of(&self, thread: u16) -> u16
+        requires { thread < 4 }
+        ensures { result ≡ self.now.order.current + 2 * thread }
+    {
+        self.order.current + 2 * thread
+    }
+
+    // The dictionary's last cell.
+    fn last_cell(&self) -> u16
+        ensures { result ≡ self.now.ends.dp - 2 }
+    {
+        self.ends.dp - 2
+    }
+
+    // No entry is open any more.
+    fn shut(&mut self)
+        ensures { Changed (with_opened 0) self.old self.new }
+    {
+        self.names.opened = 0;
+    }
+
     // The entry that begins next, by the address of its link cell.
     fn next_entry(&self) -> u16
         ensures { result ≡ self.now.ends.dp + 2 }
@@ -42,11 +73,11 @@ impl Dictionary {
         ensures rest { Outside image.old image.new }
     {
         let name = header.name;
-        let head = self.order.current + 2 * thread_of(name);
+        let head = self.head_of(thread_of(name));
         let link = self.entries(image).cell(head);
         self.put_cell(image, header.view);
         self.put_cell(image, link);
-        self.put(image, &[128 + header.flags + name.len() as u8]);
+        self.put(image, &[header.count_byte()]);
         self.put_name(image, name);
         self.put_cell(image, header.code);
     }
@@ -79,7 +110,7 @@ impl Dictionary {
         ensures dp { self.new.ends.dp ≡ self.old.ends.dp }
         ensures rest { Outside image.old image.new }
     {
-        let head = self.order.current + 2 * thread;
+        let head = self.head_of(thread);
         self.patch(image, head, e);
         self.names.newest = e;
     }
@@ -138,7 +169,7 @@ impl Dictionary {
         let e = self.names.opened;
         let first = self.entries(image).byte(e + 3);
         self.join(image, u16::from(first % 4), e);
-        self.names.opened = 0;
+        self.shut();
     }
 
     // Makes a vocabulary.
@@ -162,7 +193,7 @@ impl Dictionary {
             code: code::VOCABULARY,
         };
         self.define(image, &header, &heads, told)?;
-        self.names.voclink = self.ends.dp - 2;
+        self.names.voclink = self.last_cell();
         Ok(())
     }
 }

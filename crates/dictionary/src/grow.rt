@@ -12,6 +12,14 @@ use super::registers::Dictionary;
 use entries::held_byte;
 use fault::{Fault, Place, Reason};
 
+// A cell's bytes, the low one first.
+#[tactic(auto, using(crate::proofs::Growing::le_bytes_are_cell))]
+fn cell_bytes(x: u16) -> [u8; 2]
+    ensures { result ≡ cell x }
+{
+    x.to_le_bytes()
+}
+
 impl Dictionary {
     // Have n bytes more space?
     pub(crate) fn room(&self, n: usize, told: Place) -> Result<(), Fault>
@@ -40,7 +48,7 @@ impl Dictionary {
         ensures dp { self.new.ends.dp ≡ self.old.ends.dp + 2 }
         ensures rest { Outside image.old image.new }
     {
-        self.put(image, &x.to_le_bytes());
+        self.put(image, &cell_bytes(x));
     }
 
     // Puts a name as an entry holds it.
@@ -76,6 +84,6 @@ impl Dictionary {
         ensures did { Did (with_room 2 told (dict_of self.old image.old) (appended (cell x) (dict_of self.old image.old))) (dict_of self.old image.old) result (dict_of self.new image.new) }
         ensures rest { Outside image.old image.new }
     {
-        self.append(image, &x.to_le_bytes(), told)
+        self.append(image, &cell_bytes(x), told)
     }
 }

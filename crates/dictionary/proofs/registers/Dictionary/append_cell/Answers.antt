@@ -1,14 +1,12 @@
-use Rattle.std.proofs.Common.{◌≡◌, ℕ, List, length, ◌∙◌, subst}
+use Rattle.std.proofs.Common.{ℕ, List, length, subst}
 use Rattle.dictionary.specs.Dict.{appended}
 use Rattle.dictionary.specs.Lent.{Did, dict_of, with_room}
 use Rattle.image.specs.Cells.{cell}
-use Rattle.image.proofs.Overwriting.{cell_bytes}
 use Rattle.dictionary.proofs.registers.Dictionary.append_cell.Goals as goal
 
 pub returns-clause-did : goal.returns-clause-did
 unfolding cell
 returns-clause-did c =
-    let e : c.to_le_bytes.result ≡ cell c.args.x = c.to_le_bytes.ensures ∙ cell_bytes c.args.x c.ranges.x.fits in
     let d = dict_of c.args.self.now c.args.image.now in
     let P : List ℕ → Type 0 = λ bytes. Did (with_room (length bytes) c.args.told d (appended bytes d)) d c.append.result (dict_of c.append.new.self c.append.new.image) in
-    subst P e c.append.ensures.did
+    subst P c.cell_bytes.ensures c.append.ensures.did

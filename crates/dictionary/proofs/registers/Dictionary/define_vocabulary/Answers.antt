@@ -27,6 +27,6 @@ returns c =
     (heads_put (length c.args.name.now) c.args.told D E c.args.view (spelled c.args.name.now) _ (Ok tt) c.store.ensures.after c.in_ok-define.ensures.did) in
     record {
       did = accepted (19 + length c.args.name.now) c.args.told (length D.low) D _ _ refl (omega arith)
-          (vocabulary_made D E c.args.view (spelled c.args.name.now) c.define.new.self.ends.dp _ g.0 l refl);
+          (vocabulary_made D E c.args.view (spelled c.args.name.now) c.define.new.self.ends.dp _ g.0 l c.last_cell-self.ensures);
       rest = c.define.ensures.rest;
     }
