@@ -1,7 +1,7 @@
 // The kernel words, and the dictionary that boot leaves.
 #![tactic(auto)]
 
-ghost use Rattle.std.specs.Prelude.{◌≡◌, ◌+◌, ◌-◌, ◌*◌, ◌%◌, ◌≤◌, true, [], length};
+ghost use Rattle.std.specs.Prelude.{◌≡◌, ◌+◌, ◌-◌, ◌*◌, ◌%◌, ◌≤◌, true, cond, [], length};
 ghost use Rattle.dictionary.specs.Dict.{defined};
 ghost use Rattle.dictionary.specs.Lent.{Outside, dict_of};
 ghost use Rattle.entries.specs.Entries.{spelled};
@@ -160,6 +160,13 @@ fn forth_alone(image: &mut [u8; 65536]) -> Dictionary
     }
 }
 
+fn flags_of(immediate: bool) -> u8
+    ensures flags { result ≡ cond immediate 64 0 }
+    ensures within { result ≤ 64 }
+{
+    if immediate { IMMEDIATE } else { 0 }
+}
+
 // Defines the words of a table, numbered from 1. The number is counted beside the rows: by `enumerate` it is an index to be
 // cast, and by a `zip` one more list to bound.
 fn kernel_words(d: &mut Dictionary, image: &mut [u8; 65536], table: &[(&[u8], bool)])
@@ -172,7 +179,7 @@ fn kernel_words(d: &mut Dictionary, image: &mut [u8; 65536], table: &[(&[u8], bo
     for (name, immediate) in table {
         let header = Header {
             view: 0,
-            flags: if *immediate { IMMEDIATE } else { 0 },
+            flags: flags_of(*immediate),
             name: *name,
             code: number,
         };

@@ -1,8 +1,7 @@
-use Rattle.std.proofs.Common.{◌≡◌, cond, get_or, sym, ap, ◌∙◌, arith}
+use Rattle.std.proofs.Common.{arith}
 use Rattle.dictionary.proofs.Growing.{outside_none, outside_then}
-use Rattle.kernel.proofs.Loads.{no_row, loading_start, loading_word, loading_more, loading_end}
+use Rattle.kernel.proofs.Loads.{loading_start, loading_word, loading_more, loading_end}
 use Rattle.kernel.proofs.kernel_words.Goals as goal
-use Rattle.kernel.proofs.kernel_words.Goals.{then-immediate, else-immediate}
 
 pub loop-name-init : goal.loop-name-init
 loop-name-init c = (loading_start _ _ _ c.requires.rows, outside_none _)
@@ -11,7 +10,7 @@ pub invariant_of-header : goal.invariant_of-header
 invariant_of-header c =
     let w = loading_word _ _ _ _ _ _ _ c.loop-name.invariant.0 c.loop-name-test.true in
     record {
-      flagged = elim c.if-immediate.branch [ then-immediate x ↦ omega (arith, x.header-is) | else-immediate x ↦ omega (arith, x.header-is) ];
+      flagged = c.flags_of.ensures.within;
       named = w.some;
       short = w.short;
       text = w.text;
@@ -26,14 +25,10 @@ pub overflow_add-number : goal.overflow_add-number
 overflow_add-number c = omega (arith, c.loop-name.invariant.0.counts, c.requires.space)
 
 pub loop-name-preserved : goal.loop-name-preserved
-loop-name-preserved c =
-    let f : c.if-immediate.header ≡ cond (get_or c.args.table.now c.loop-name.name-index no_row).1 64 0 = elim c.if-immediate.branch [
-      | then-immediate x ↦ x.header-is ∙ ap (λ b. cond b 64 0) (sym x.if-immediate.true)
-      | else-immediate x ↦ x.header-is ∙ ap (λ b. cond b 64 0) (sym x.if-immediate.false)
-    ] in (
-      loading_more _ _ _ _ _ _ _ c.loop-name.invariant.0 _ _ _ c.loop-name-test.true f c.kernel_word.ensures.made c.kernel_word.ensures.dp,
-      outside_then c.loop-name.invariant.1 c.kernel_word.ensures.rest,
-    )
+loop-name-preserved c = (
+  loading_more _ _ _ _ _ _ _ c.loop-name.invariant.0 _ _ _ c.loop-name-test.true c.flags_of.ensures.flags c.kernel_word.ensures.made c.kernel_word.ensures.dp,
+  outside_then c.loop-name.invariant.1 c.kernel_word.ensures.rest,
+)
 
 pub returns : goal.returns
 returns c = record { made = loading_end _ _ _ _ _ _ _ c.loop-name.invariant.0 c.loop-name-test.false; rest = c.loop-name.invariant.1 }
