@@ -1,6 +1,6 @@
 -- Laws of the search order.
-use Rattle.std.proofs.Common.{◌≡◌, ℕ, true, false, is_some, Some, None, Ok, Err, Option, Result, List, sym, refl, ap, ◌∙◌}
-use Rattle.std.proofs.lemmas.Bool.{false≢true}
+use Rattle.std.proofs.Common.{◌≡◌, ℕ, true, false, ◌||◌, eqb, is_some, Some, None, Ok, Err, Option, Result, List, sym, refl, ap, ◌∙◌, inl, inr}
+use Rattle.std.proofs.lemmas.Bool.{false≢true, or_cases, eqb-true}
 use Rattle.fault.specs.declared.Fault.{Fault}
 use Rattle.fault.specs.declared.Place.{Place}
 use Rattle.entries.specs.Entries.{forth}
@@ -58,6 +58,13 @@ pub both_missing : (f g : Found) → or_else f (λ _. g) ≡ missing → (f ≡ 
 both_missing missing g e = (refl, e)
 both_missing broken g e = absurd (false≢true (cc))
 both_missing (hit x) g e = absurd (false≢true (cc))
+
+-- FORTH, where it is one of the two
+pub forth_missing : (f : ℕ → Found) (context current : ℕ) → (eqb forth context || eqb forth current) ≡ true → (f context ≡ missing) × (f current ≡ missing) → f forth ≡ missing
+forth_missing f context current h m = elim (or_cases (eqb forth context) (eqb forth current) h) [
+  | inl a ↦ ap f (eqb-true forth context a) ∙ m.0
+  | inr b ↦ ap f (eqb-true forth current b) ∙ m.1
+]
 
 -- all three
 pub searched_in : (told : Place) (D : Dict) (low name : List ℕ) (r : Result (Option ℕ) Fault) → low ≡ D.low

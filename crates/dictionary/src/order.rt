@@ -30,7 +30,7 @@ impl Dictionary {
         if found.is_none() && current != context {
             found = entries.search_vocabulary(current, name, told)?;
         }
-        if found.is_none() && context != FORTH && current != FORTH {
+        if found.is_none() && !self.order.has(FORTH) {
             found = entries.search_vocabulary(FORTH, name, told)?;
         }
         Ok(found)

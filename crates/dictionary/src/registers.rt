@@ -1,5 +1,5 @@
 // The dictionary's own registers. All seats share its ends and its names; each seat has a search order of its own.
-ghost use Rattle.std.specs.Prelude.{◌≡◌, ◌+◌, ◌<◌, ◌≤◌, length};
+ghost use Rattle.std.specs.Prelude.{◌≡◌, ◌+◌, ◌<◌, ◌≤◌, ◌||◌, length, ◌==◌};
 ghost use Rattle.dictionary.specs.Kept.{kept_end};
 ghost use Rattle.image.specs.Views.{low_of};
 
@@ -42,6 +42,15 @@ impl Names {
 pub struct SearchOrder {
     pub context: u16,
     pub current: u16,
+}
+
+impl SearchOrder {
+    // Is a vocabulary CONTEXT or CURRENT?
+    pub(crate) fn has(&self, vocabulary: u16) -> bool
+        ensures { result ≡ (vocabulary == self.now.context || vocabulary == self.now.current) }
+    {
+        vocabulary == self.context || vocabulary == self.current
+    }
 }
 
 // All of them. CONTEXT and CURRENT lie below DP, and below the open entry's beginning, to which DP may go back.

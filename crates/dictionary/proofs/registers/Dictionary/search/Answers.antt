@@ -5,10 +5,10 @@ use Rattle.entries.specs.Threads.{answered}
 use Rattle.entries.specs.Search.{Found, search_in}
 use Rattle.dictionary.specs.Search.{or_else, searched}
 use Rattle.dictionary.specs.Lent.{dict_of}
-use Rattle.dictionary.proofs.Orders.{else_broken, says_next, says_same, says_hit, or_else_assoc, both_missing, searched_in}
+use Rattle.dictionary.proofs.Orders.{else_broken, says_next, says_same, says_hit, or_else_assoc, both_missing, forth_missing, searched_in}
 use Rattle.dictionary.proofs.registers.Dictionary.search.Goals as goal
 use Rattle.dictionary.proofs.registers.Dictionary.search.Goals.{After-is_none-2, then-is_none+then-current-context+in_ok-found-2, else-is_none, else-is_none-via-then-is_none+else-current-context, else-is_none-via-else-is_none}
-use Rattle.dictionary.proofs.registers.Dictionary.search.Goals.{else-is_none-2-via-then-is_none-2+then-context-ne-FORTH+else-current-ne-FORTH, else-is_none-2-via-then-is_none-2+else-context-ne-FORTH, else-is_none-2-via-else-is_none-2}
+use Rattle.dictionary.proofs.registers.Dictionary.search.Goals.{else-is_none-2-via-then-is_none-2+else-not-has, else-is_none-2-via-else-is_none-2}
 
 pub returns-in_err-found : goal.returns-in_err-found
 unfolding searched
@@ -67,10 +67,9 @@ returns-else-is_none-2 c =
     let j = joined (goal.at.returns-else-is_none-2 c).After-is_none-2 in
     let fg = or_else (f D.context) (λ _. f D.current) in
     let found : Ok c.if-is_none.found ≡ answered c.args.told (or_else fg (λ _. f forth)) = elim c.else-is_none-2.branch [
-      | else-is_none-2-via-then-is_none-2+then-context-ne-FORTH+else-current-ne-FORTH w ↦
-          says_same c.args.told fg (f forth) c.if-is_none.found j (λ m. ap f (sym w.if-current-ne-FORTH.false) ∙ (both_missing (f D.context) (f D.current) m).1)
-      | else-is_none-2-via-then-is_none-2+else-context-ne-FORTH w ↦
-          says_same c.args.told fg (f forth) c.if-is_none.found j (λ m. ap f (sym w.if-context-ne-FORTH.false) ∙ (both_missing (f D.context) (f D.current) m).0)
+      | else-is_none-2-via-then-is_none-2+else-not-has w ↦
+          let h = sym w.has.ensures ∙ w.if-not-has.false in
+          says_same c.args.told fg (f forth) c.if-is_none.found j (λ m. forth_missing f D.context D.current h (both_missing (f D.context) (f D.current) m))
       | else-is_none-2-via-else-is_none-2 w ↦ says_hit c.args.told fg (f forth) c.if-is_none.found j w.if-is_none-2.ensures
     ] in
     searched_in c.args.told D low c.args.name.now _ c.entries-entries.ensures.bytes (found ∙ ap (answered c.args.told) (or_else_assoc (f D.context) (f D.current) (f forth)))
