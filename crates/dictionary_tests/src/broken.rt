@@ -16,7 +16,7 @@ const TWO: Left = Left {
     ..BOOT
 };
 
-const THREADS: [Session; 8] = [
+static THREADS: [Session; 8] = [
     // A link to itself; who has found the word looks no further, and other threads are whole.
     Session {
         moves: &[Create("A"), Poke(1620, 1620)],
@@ -73,7 +73,7 @@ const THREADS: [Session; 8] = [
     },
 ];
 
-const WALKS: [Session; 12] = [
+static WALKS: [Session; 12] = [
     // A walk looks no further than the first entry below the word.
     Session {
         moves: &[Create("A"), Create("E"), Poke(1620, 1620), Forget("E")],
@@ -179,7 +179,7 @@ const WALKS: [Session; 12] = [
 ];
 
 // V begins at 1618: its heads are 1628 to 1635, its link is 1636, and it ends at 1638.
-const CHAINS: [Session; 5] = [
+static CHAINS: [Session; 5] = [
     Session {
         moves: &[Vocabulary("V"), Create("A"), Poke(1636, 1636), Forget("A")],
         refused: 6,

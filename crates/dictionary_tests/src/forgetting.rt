@@ -3,7 +3,7 @@ use super::moves::Move::*;
 use super::sessions::Answer::*;
 use super::sessions::{BOOT, Left, Session, hold};
 
-const WORDS: [Session; 11] = [
+static WORDS: [Session; 11] = [
     Session {
         moves: &[Create("A"), Forget("A")],
         refused: 0,
@@ -121,7 +121,7 @@ const WORDS: [Session; 11] = [
     },
 ];
 
-const REFUSED: [Session; 6] = [
+static REFUSED: [Session; 6] = [
     Session {
         moves: &[Forget("A")],
         refused: 7,
@@ -180,7 +180,7 @@ const REFUSED: [Session; 6] = [
     },
 ];
 
-const VOCABULARIES: [Session; 13] = [
+static VOCABULARIES: [Session; 13] = [
     Session {
         moves: &[Vocabulary("V"), Forget("V")],
         refused: 0,

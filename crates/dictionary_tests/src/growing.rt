@@ -3,7 +3,7 @@ use super::moves::Move::*;
 use super::sessions::Answer::*;
 use super::sessions::{BOOT, Left, Session, hold};
 
-const ENTRIES: [Session; 11] = [
+static ENTRIES: [Session; 11] = [
     Session {
         moves: &[],
         refused: 0,
@@ -115,7 +115,7 @@ const ENTRIES: [Session; 11] = [
     },
 ];
 
-const ORDERS: [Session; 8] = [
+static ORDERS: [Session; 8] = [
     Session {
         moves: &[Vocabulary("V"), Seek(1628)],
         refused: 0,
@@ -232,7 +232,7 @@ const ORDERS: [Session; 8] = [
     },
 ];
 
-const COLON: [Session; 9] = [
+static COLON: [Session; 9] = [
     Session {
         moves: &[Colon("SQ")],
         refused: 0,
@@ -316,7 +316,7 @@ const COLON: [Session; 9] = [
 ];
 
 // 31,150 bytes are left from boot's DP up to 32,768.
-const FULL: [Session; 9] = [
+static FULL: [Session; 9] = [
     Session {
         moves: &[Append(31150)],
         refused: 0,
