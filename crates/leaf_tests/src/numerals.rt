@@ -6,7 +6,7 @@ use numbers::{
 use std::process::Abort;
 
 // dividend, divisor, and the remainder and quotient
-const QUOTIENTS: [(u16, u16, Option<(u16, u16)>); 13] = [
+static QUOTIENTS: [(u16, u16, Option<(u16, u16)>); 13] = [
     (7, 2, Some((1, 3))),
     (65529, 2, Some((1, 65532))),
     (7, 65534, Some((65535, 65532))),
@@ -23,7 +23,7 @@ const QUOTIENTS: [(u16, u16, Option<(u16, u16)>); 13] = [
 ];
 
 // two factors, divisor, and the remainder and quotient
-const SCALED: [(u16, u16, u16, Option<(u16, u16)>); 4] = [
+static SCALED: [(u16, u16, u16, Option<(u16, u16)>); 4] = [
     (32768, 32768, 32767, None),
     (32768, 32768, 32768, Some((0, 32768))),
     (300, 65236, 7, Some((6, 52678))),
@@ -31,7 +31,7 @@ const SCALED: [(u16, u16, u16, Option<(u16, u16)>); 4] = [
 ];
 
 // base, text, and the cell that is read
-const READINGS: [(u16, &[u8], Option<u16>); 27] = [
+static READINGS: [(u16, &[u8], Option<u16>); 27] = [
     (10, b"0", Some(0)),
     (10, b"007", Some(7)),
     (10, b"65535", Some(65535)),
@@ -62,7 +62,7 @@ const READINGS: [(u16, &[u8], Option<u16>); 27] = [
 ];
 
 // base, cell, and its texts, signed and unsigned
-const PRINTINGS: [(u16, u16, &[u8], &[u8]); 7] = [
+static PRINTINGS: [(u16, u16, &[u8], &[u8]); 7] = [
     (10, 0, b"0", b"0"),
     (10, 32767, b"32767", b"32767"),
     (10, 32768, b"-32768", b"32768"),
@@ -74,10 +74,10 @@ const PRINTINGS: [(u16, u16, &[u8], &[u8]); 7] = [
 
 #[test]
 fn divides(rt: HostRuntime) {
-    for (a, b, answer) in QUOTIENTS {
+    for &(a, b, answer) in &QUOTIENTS {
         assert!(rt; divide(a, b) == answer, "{a} by {b}");
     }
-    for (a, b, c, answer) in SCALED {
+    for &(a, b, c, answer) in &SCALED {
         assert!(rt; divide_product(a, b, c) == answer, "{a} times {b} by {c}");
     }
 }
@@ -108,7 +108,7 @@ fn reads(rt: HostRuntime) {
 
 #[test]
 fn prints(rt: HostRuntime) {
-    for (base, value, signed, unsigned) in PRINTINGS {
+    for &(base, value, signed, unsigned) in &PRINTINGS {
         prints_signed(&rt, base, value, signed);
         prints_unsigned(&rt, base, value, unsigned);
     }
