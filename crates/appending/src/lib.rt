@@ -5,6 +5,7 @@ ghost use Rattle.std.specs.Prelude.{◌≡◌, ℕ, List, length, take};
 ghost use Rattle.appending.specs.Spaces.{InSpace};
 ghost use Rattle.definition.specs.Compile.{literal_of};
 ghost use Rattle.dictionary.specs.Dict.{appended};
+ghost use Rattle.image.specs.Cells.{cell};
 
 use definition::ranged::Registers;
 use fault::Fault;
@@ -22,6 +23,14 @@ pub fn append(registers: &mut Registers, image: &mut [u8; 65536], bytes: &[u8]) 
     d.append(image, bytes, place(registers))?;
     keep(registers, d);
     Ok(())
+}
+
+// A token, as it is compiled.
+#[tactic(auto, using(dictionary::proofs::Growing::le_bytes_are_cell))]
+pub fn compiled(token: u16) -> [u8; 2]
+    ensures { result ≡ cell token }
+{
+    token.to_le_bytes()
 }
 
 // (LIT) and a cell, as they are compiled.

@@ -2,7 +2,6 @@
 ghost use Rattle.std.specs.Prelude.{◌≡◌, ℕ, ◌+◌, ◌≤◌, true, false, List, take};
 ghost use Rattle.compiling_words.specs.Acting.{OnState};
 ghost use Rattle.definition.specs.Compile.{token};
-ghost use Rattle.image.specs.Cells.{cell};
 ghost use Rattle.kernel_tokens.specs.Numbers.{compiled_number};
 ghost use Rattle.definition.specs.declared.registers.Mark.{Mark};
 ghost use Rattle.fault.specs.declared.Reason.TheVariants.{DictionaryFull};
@@ -11,7 +10,7 @@ ghost use Rattle.steps.specs.Seats.{IsAnswered};
 ghost use Rattle.store.specs.Meaning.{Meaning};
 
 use super::flow::set_pointer;
-use appending::{append, literal};
+use appending::{append, compiled, literal};
 use definition::ranged::Registers;
 use fault::{Fault, Reason};
 use kernel_tokens::CompiledWord;
@@ -35,19 +34,11 @@ pub(crate) fn compile_literal(
     Ok(())
 }
 
-// A token as it is compiled.
-#[tactic(auto, using(dictionary::proofs::Growing::le_bytes_are_cell))]
-fn cell_bytes(token: u16) -> [u8; 2]
-    ensures { result ≡ cell token }
-{
-    token.to_le_bytes()
-}
-
-// That of a kernel word.
+// A kernel word's token, as it is compiled.
 pub(crate) fn token_bytes(word: CompiledWord) -> [u8; 2]
     ensures { result ≡ token (compiled_number word) }
 {
-    cell_bytes(word.token())
+    compiled(word.token())
 }
 
 // COMPILE: the token that follows is appended.
@@ -63,7 +54,7 @@ pub(crate) fn compile_next(registers: &mut Registers, image: &mut [u8; 65536]) -
     let ip = registers.seat.flow.ip;
     ask_inside(registers, ip, 2)?;
     let token = image::fetch(image, usize::from(ip));
-    append(registers, image, &cell_bytes(token))?;
+    append(registers, image, &compiled(token))?;
     set_pointer(registers, ip + 2);
     Ok(())
 }

@@ -1,0 +1,4 @@
+pub mod TokenEnds
+pub mod WordEnds
+pub mod TextEnds
+pub mod StepEnds
