@@ -1,13 +1,22 @@
-// What words ask of the state, behind what they take from the text.
+// What words ask of what they find, and of the state.
 #![tactic(auto)]
 
-ghost use Rattle.std.specs.Prelude.{◌≡◌, [], ◌∷◌, IfOk};
+ghost use Rattle.std.specs.Prelude.{◌≡◌, [], ◌∷◌, IfOk, Some, None};
 ghost use Rattle.asking.specs.Asking.{StateAnswers};
 ghost use Rattle.definition.specs.Kernel.{has_open, ip_set, ip_zero, none_open};
+ghost use Rattle.fault.specs.declared.Reason.TheVariants.{NotFound};
+ghost use Rattle.steps.specs.Seats.{IsAnswered};
 
 use definition::ranged::Registers;
 use fault::{Fault, Reason};
-use steps::faults::ask;
+use steps::faults::{ask, refusal};
+
+// Is a word found?
+pub fn ask_there(registers: &Registers, found: Option<u16>) -> Result<u16, Fault>
+    ensures { IsAnswered result (λ entry. found ≡ Some entry) (found ≡ None) NotFound registers.now.seat }
+{
+    found.ok_or(refusal(registers, Reason::NotFound))
+}
 
 // Is a definition open?
 pub fn ask_open(registers: &Registers) -> Result<(), Fault>

@@ -13,11 +13,15 @@ use fault::{Fault, Reason};
 use steps::faults::ask;
 use texts::name::Name;
 
+// What an entry holds besides its name, up to its first parameter cell.
+const UNNAMED: usize = 9;
+
 // Is there dictionary space for the entry of a name with one more parameter cell?
 pub(crate) fn ask_entry_space(registers: &Registers, name: &Name) -> Result<(), Fault>
     ensures { IsAnswered result (λ _. registers.now.shared.ends.dp + (entry_size (name_of name.now) + 2) ≤ 32768) (32768 < registers.now.shared.ends.dp + (entry_size (name_of name.now) + 2)) DictionaryFull registers.now.seat }
 {
-    let end = usize::from(registers.shared.ends.dp) + 11 + name.text().len();
+    let size = UNNAMED + name.text().len() + 2;
+    let end = usize::from(registers.shared.ends.dp) + size;
     ask(registers, end <= 32768, Reason::DictionaryFull)
 }
 
@@ -25,11 +29,8 @@ pub(crate) fn ask_entry_space(registers: &Registers, name: &Name) -> Result<(), 
 pub(crate) fn ask_cell_space(registers: &Registers) -> Result<(), Fault>
     ensures { IsAnswered result (λ _. registers.now.shared.ends.here + 2 ≤ 65535) (65535 < registers.now.shared.ends.here + 2) DataFull registers.now.seat }
 {
-    ask(
-        registers,
-        registers.shared.ends.here <= 65533,
-        Reason::DataFull,
-    )
+    let fits = registers.shared.ends.here.checked_add(2).is_some();
+    ask(registers, fits, Reason::DataFull)
 }
 
 // Data space grows by a cell of 0.

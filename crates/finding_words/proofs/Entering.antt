@@ -14,7 +14,7 @@ use Rattle.definition.specs.Asked.{Asked, given, ask, ◌>>=◌, ◌>>◌}
 use Rattle.definition.specs.Kernel
 use Rattle.definition.specs.Text.{Taken, next_word, is_name, take_name, ask_found, ask_there}
 use Rattle.definition.specs.Words.{Argument, argument, taken}
-use Rattle.steps.specs.Seats.{told_by}
+use Rattle.steps.specs.Seats.{told_by, IsAnswered}
 use Rattle.steps.specs.Does.{seen}
 use Rattle.texts.specs.declared.name.Name.{Name}
 use Rattle.texts.specs.Names.{name_of, TookName}
@@ -55,12 +55,16 @@ module _ (r r' : Registers) (i : List ℕ) where
     searched_is : (o : Option ℕ) → Searched (Ok o) → (c t : List ℕ) (k : List Mark) (s : Meaning) → taken Kernel.a_word (seen r i c t k s) ≡ there (was c t k s) o
     searched_is o f c t k s = named c t k s ∙ ap (λ (y : Asked (Option ℕ)). y >>= there (was c t k s)) (f c t k s)
 
-    pub not_found : (o : Option ℕ) (e : Fault) → o ≡ None → Searched (Ok o) → e ≡ fault_of NotFound (told_by r'.seat) → TookEntry r i (Err e) r'
+    not_found : (o : Option ℕ) (e : Fault) → o ≡ None → Searched (Ok o) → e ≡ fault_of NotFound (told_by r'.seat) → TookEntry r i (Err e) r'
     not_found o e z f p = λ c t k s. rw (searched_is o f c t k s ∙ ap (there (was c t k s)) z) (p, refl)
 
-    pub at_entry : (o : Option ℕ) (x : ℕ) → o ≡ Some x → Searched (Ok o) → r'.shared ≡ r.shared → EntryInside r'.shared.ends.dp (Ok o) → TookEntry r i (Ok x) r'
+    at_entry : (o : Option ℕ) (x : ℕ) → o ≡ Some x → Searched (Ok o) → r'.shared ≡ r.shared → EntryInside r'.shared.ends.dp (Ok o) → TookEntry r i (Ok x) r'
     at_entry o x z f p g =
         let P : Option ℕ → Type 0 = λ y. EntryInside r'.shared.ends.dp (Ok y) in
         let Q : ℕ → Type 0 = λ y. x + 7 ≤ y in
         let l = subst P z g in
         (l.0, subst Q (ap (λ (y : Shared). y.ends.dp) p) l.1, (w, λ c t k s. searched_is o f c t k s ∙ ap (there (was c t k s)) z))
+
+    pub answered_there : (o : Option ℕ) (v : Result ℕ Fault) → Searched (Ok o) → r'.shared ≡ r.shared → EntryInside r'.shared.ends.dp (Ok o) → IsAnswered v (λ x. o ≡ Some x) (o ≡ None) NotFound r'.seat → TookEntry r i v r'
+    answered_there o (Ok x) f p g a = at_entry o x a f p g
+    answered_there o (Err e) f p g a = not_found o e a.0 f a.1

@@ -4,11 +4,11 @@ ghost use Rattle.entries.specs.Entries.{token_of};
 ghost use Rattle.finding_words.specs.Entries.{TookEntry};
 ghost use Rattle.image.specs.Views.{low_of};
 
+use asking::ask_there;
 use definition::ranged::Registers;
 use entries::Entries;
-use fault::{Fault, Reason};
+use fault::Fault;
 use finding::searching::search;
-use steps::faults::refusal;
 use texts::names::take_name;
 
 // Takes a name, and finds its entry in the search order.
@@ -17,10 +17,8 @@ pub fn take_entry(registers: &mut Registers, image: &[u8; 65536]) -> Result<u16,
     ensures took { TookEntry registers.old image.now result registers.new }
 {
     let name = take_name(registers, image)?;
-    match search(registers, image, name.text())? {
-        Some(entry) => Ok(entry),
-        None => Err(refusal(registers, Reason::NotFound)),
-    }
+    let found = search(registers, image, name.text())?;
+    ask_there(registers, found)
 }
 
 // Its token.

@@ -6,12 +6,12 @@ ghost use Rattle.definition.specs.Boot.{fence};
 ghost use Rattle.forget_word.specs.Forgettable.{TookForgettable};
 ghost use Rattle.steps.specs.Does.{FromText};
 
-use asking::ask_at_rest;
+use asking::{ask_at_rest, ask_there};
 use definition::ranged::Registers;
-use fault::{Fault, Reason};
+use fault::Fault;
 use kernel_table::fence_address;
 use seat_dictionary::{dictionary_of, keep};
-use steps::faults::{place, refusal};
+use steps::faults::place;
 use texts::names::take_name;
 use trimming::{can_trim, find, trim};
 
@@ -30,9 +30,7 @@ fn take_forgettable(registers: &mut Registers, image: &[u8; 65536]) -> Result<u1
     let told = place(registers);
     let d = dictionary_of(registers);
     let found = find(&d, image, name.text(), told)?;
-    let Some(entry) = found else {
-        return Err(refusal(registers, Reason::NotFound));
-    };
+    let entry = ask_there(registers, found)?;
     can_trim(&d, image, first_forgettable(), entry, told)?;
     Ok(entry)
 }

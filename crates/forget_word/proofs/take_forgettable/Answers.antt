@@ -12,14 +12,17 @@ returns-in_err-found c =
     let p = err_from_is_err_and c.from_residual-in_err-found.result c.from_residual-in_err-found.ensures.1 in
     rw (p.1, p.2) (broken_thread c.args.registers.now c.take_name.new.registers c.args.image.now c.told-image c.in_ok-name.name c.text.result.now c.in_ok-name.ensures.took c.text.ensures.value c.dictionary_of-d.result (record { ends = c.dictionary_of-d.ensures.ends; names = c.dictionary_of-d.ensures.names; order = c.dictionary_of-d.ensures.order }) c.place-told.result c.place-told.ensures _ c.in_err-found.ensures)
 
-pub returns-in_default : goal.returns-in_default
-returns-in_default c = not_found c.args.registers.now c.take_name.new.registers c.args.image.now c.told-image c.in_ok-name.name c.text.result.now c.in_ok-name.ensures.took c.text.ensures.value c.dictionary_of-d.result (record { ends = c.dictionary_of-d.ensures.ends; names = c.dictionary_of-d.ensures.names; order = c.dictionary_of-d.ensures.order }) c.place-told.result c.place-told.ensures c.in_ok-found.found c.refusal.result c.in_default.is c.in_ok-found.ensures c.refusal.ensures
+pub returns-in_err-entry : goal.returns-in_err-entry
+returns-in_err-entry c =
+    let p = err_from_is_err_and c.from_residual-in_err-entry.result c.from_residual-in_err-entry.ensures.1 in
+    rw (p.1, p.2)
+    (not_found c.args.registers.now c.take_name.new.registers c.args.image.now c.told-image c.in_ok-name.name c.text.result.now c.in_ok-name.ensures.took c.text.ensures.value c.dictionary_of-d.result (record { ends = c.dictionary_of-d.ensures.ends; names = c.dictionary_of-d.ensures.names; order = c.dictionary_of-d.ensures.order }) c.place-told.result c.place-told.ensures c.in_ok-found.found _ c.in_err-entry.ensures.0 c.in_ok-found.ensures c.in_err-entry.ensures.1)
 
 pub returns-in_err-can_trim : goal.returns-in_err-can_trim
 returns-in_err-can_trim c =
     let p = err_from_is_err_and c.from_residual-in_err-can_trim.result c.from_residual-in_err-can_trim.ensures.1 in
     rw (p.1, p.2)
-    (not_in_order c.args.registers.now c.take_name.new.registers c.args.image.now c.told-image c.in_ok-name.name c.text.result.now c.in_ok-name.ensures.took c.text.ensures.value c.dictionary_of-d.result (record { ends = c.dictionary_of-d.ensures.ends; names = c.dictionary_of-d.ensures.names; order = c.dictionary_of-d.ensures.order }) c.place-told.result c.place-told.ensures c.in_ok-found.found c.in-Some.entry c.in-Some.is c.in_ok-found.ensures c.first_forgettable.result _ c.first_forgettable.ensures c.in_err-can_trim.ensures)
+    (not_in_order c.args.registers.now c.take_name.new.registers c.args.image.now c.told-image c.in_ok-name.name c.text.result.now c.in_ok-name.ensures.took c.text.ensures.value c.dictionary_of-d.result (record { ends = c.dictionary_of-d.ensures.ends; names = c.dictionary_of-d.ensures.names; order = c.dictionary_of-d.ensures.order }) c.place-told.result c.place-told.ensures c.in_ok-found.found c.in_ok-entry.entry c.in_ok-entry.ensures c.in_ok-found.ensures c.first_forgettable.result _ c.first_forgettable.ensures c.in_err-can_trim.ensures)
 
 pub returns : goal.returns
-returns c = forgettable c.args.registers.now c.take_name.new.registers c.args.image.now c.told-image c.in_ok-name.name c.text.result.now c.in_ok-name.ensures.took c.text.ensures.value c.dictionary_of-d.result (record { ends = c.dictionary_of-d.ensures.ends; names = c.dictionary_of-d.ensures.names; order = c.dictionary_of-d.ensures.order }) c.place-told.result c.place-told.ensures c.in_ok-found.found c.in-Some.entry c.in-Some.is c.in_ok-found.ensures c.first_forgettable.result c.first_forgettable.ensures c.in_ok-can_trim.ensures
+returns c = forgettable c.args.registers.now c.take_name.new.registers c.args.image.now c.told-image c.in_ok-name.name c.text.result.now c.in_ok-name.ensures.took c.text.ensures.value c.dictionary_of-d.result (record { ends = c.dictionary_of-d.ensures.ends; names = c.dictionary_of-d.ensures.names; order = c.dictionary_of-d.ensures.order }) c.place-told.result c.place-told.ensures c.in_ok-found.found c.in_ok-entry.entry c.in_ok-entry.ensures c.in_ok-found.ensures c.first_forgettable.result c.first_forgettable.ensures c.in_ok-can_trim.ensures
