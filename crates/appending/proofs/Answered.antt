@@ -1,5 +1,5 @@
 -- A question of dictionary space, answered.
-use Rattle.std.proofs.Common.{◌≡◌, ℕ, Bool, true, false, sym, refl, ap, subst}
+use Rattle.std.proofs.Common.{◌≡◌, Bool, true, false, sym, refl, ap, subst}
 use Rattle.fault.specs.declared.Fault.{Fault}
 use Rattle.fault.specs.declared.Reason.TheVariants.{DictionaryFull}
 use Rattle.definition.specs.Machine.{Machine, told}

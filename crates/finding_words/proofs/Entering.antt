@@ -1,7 +1,7 @@
 -- The entry of a name that follows in the text.
-use Rattle.std.proofs.Common.{Bool, true, false, ltb, length, arith, ◌≡◌, ℕ, ◌+◌, ◌≤◌, List, Some, None, Ok, Err, Option, Result, sym, refl, ap, ◌∙◌, subst}
+use Rattle.std.proofs.Common.{◌≡◌, ℕ, ◌+◌, ◌≤◌, List, Some, None, Ok, Err, Option, Result, sym, refl, ap, ◌∙◌, subst}
 use Rattle.fault.specs.declared.Fault.{Fault}
-use Rattle.fault.specs.declared.Reason.TheVariants.{NotFound, NothingFollows, BadName}
+use Rattle.fault.specs.declared.Reason.TheVariants.{NotFound}
 use Rattle.fault.specs.Numbers.{fault_of}
 use Rattle.store.specs.Meaning.{Meaning}
 use Rattle.dictionary.specs.Dict.{Dict}
@@ -9,10 +9,10 @@ use Rattle.dictionary.specs.Search.{searched}
 use Rattle.definition.specs.declared.registers.Mark.{Mark}
 use Rattle.definition.specs.declared.registers.Shared.{Shared}
 use Rattle.definition.specs.declared.ranged.Registers.{Registers}
-use Rattle.definition.specs.Machine.{Machine, dict_of}
-use Rattle.definition.specs.Asked.{Asked, given, ask, ◌>>=◌, ◌>>◌}
+use Rattle.definition.specs.Machine.{dict_of}
+use Rattle.definition.specs.Asked.{Asked, given, ◌>>=◌}
 use Rattle.definition.specs.Kernel
-use Rattle.definition.specs.Text.{Taken, next_word, is_name, take_name, ask_found, ask_there}
+use Rattle.definition.specs.Text.{Taken, take_name, ask_found, ask_there}
 use Rattle.definition.specs.Words.{Argument, argument, taken}
 use Rattle.steps.specs.Seats.{told_by, IsAnswered}
 use Rattle.steps.specs.Does.{seen}
