@@ -98,3 +98,7 @@ module _ (r r' : Registers) (l l' : Memory) where
 pub step_ends : (r r' r2 : Registers) (l l' : Memory) (o : Result Progress Fault) → is_err o ≡ true → held r2 l' ≡ cleared (held r' l') → Tries r l o r' l' → Steps r l o r2 l'
 step_ends r r' r2 l l' (Ok o) h v a = absurd (false≢true h)
 step_ends r r' r2 l l' (Err e) h v a = step_cleared r r' l l' r2 e v a
+
+pub step_ends_well : (r r' : Registers) (l l' : Memory) (o : Result Progress Fault) → is_err o ≡ false → Tries r l o r' l' → Steps r l o r' l'
+step_ends_well r r' l l' (Ok o) h a = stepped r r' l l' o a
+step_ends_well r r' l l' (Err e) h a = absurd (false≢true (sym h))

@@ -1,6 +1,7 @@
 // One step.
 ghost use Rattle.std.specs.Prelude.{◌≡◌, take};
 ghost use Rattle.codes.specs.Performs.{memory};
+ghost use Rattle.stepping.specs.Lawful.{FaultKept, Lawful};
 ghost use Rattle.stepping.specs.Steps.{Starts, Steps, Tries};
 
 use super::next::Next;
@@ -72,6 +73,8 @@ pub fn step<S: Store>(
     store: &mut S,
 ) -> Result<Progress, Fault>
     ensures did { Steps registers.old (memory image.old cells.old returns.old marks.old output.old.bytes.now output.old.typed (S.Store.means store.old)) result registers.new (memory image.new cells.new returns.new marks.new output.new.bytes.now output.new.typed (S.Store.means store.new)) }
+    ensures lawful { Lawful registers.old (memory image.old cells.old returns.old marks.old output.old.bytes.now output.old.typed (S.Store.means store.old)) result registers.new (memory image.new cells.new returns.new marks.new output.new.bytes.now output.new.typed (S.Store.means store.new)) }
+    ensures kept { FaultKept registers.old (memory image.old cells.old returns.old marks.old output.old.bytes.now output.old.typed (S.Store.means store.old)) result registers.new (memory image.new cells.new returns.new marks.new output.new.bytes.now output.new.typed (S.Store.means store.new)) }
     ensures below { take 256 image.new ≡ take 256 image.old }
     ensures same_reference { output.new.bytes.ghost_name ≡ output.old.bytes.ghost_name }
 {
