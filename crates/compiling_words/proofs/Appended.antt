@@ -20,9 +20,9 @@ use Rattle.definition.specs.Flow.{has_inline, inline, past}
 use Rattle.definition.specs.Stacks.{has_cells, nth, popped}
 use Rattle.definition.specs.Words.{Argument, perform}
 use Rattle.steps.specs.Inside.{inside}
-use Rattle.steps.specs.Seats.{told_by, with_cell_depth}
+use Rattle.steps.specs.Seats.{told_by, with_cell_depth, with_pointer}
 use Rattle.steps.specs.Does.{seen, acts, Refuses}
-use Rattle.steps.proofs.Exits.{refused_at, does_like, has_cells_lem, lacks_cells, cells_view}
+use Rattle.steps.proofs.Exits.{refused_at, does_like, has_cells_lem, lacks_cells, cells_view, pointer_view}
 use Rattle.steps.proofs.Dictionary.{low_long, inside_tells, inside_is}
 use Rattle.appending.specs.Spaces.{in_space, InSpace}
 use Rattle.appending.proofs.Answered.{spaced, full_like}
@@ -115,8 +115,8 @@ module _ (r : Registers) (i : List ℕ) (li : length i ≡ 65536) where
         subst (λ b. Refuses (ask m DictionaryFull b >> quietly (changed (appended bs) m)) e m) (ap (λ y. fits y m) n ∙ fits_is true h [] [] [] (record { count = 0; writable = false; blocks = [] })) d
 
     pub compile_done : (x : ℕ) (bs : List ℕ) (r1 r2 : Registers) (i1 : List ℕ) → inside r.seat.flow.ip 2 r.shared.ends.dp ≡ true → x ≡ cell_at i r.seat.flow.ip → bs ≡ cell x → InSpace (length bs) (appended bs) r i (Ok tt) r1 i1
-        → ((c t : List ℕ) (k : List Mark) (s : Meaning) → seen r2 i1 c t k s ≡ with_ip (r.seat.flow.ip + 2) (seen r1 i1 c t k s)) → (c t : List ℕ) → OnState 78 r i c t (Ok tt) r2 i1
-    compile_done x bs r1 r2 i1 g q p f v c t = λ again a k s l.
+        → r2.shared ≡ r1.shared → r2.seat ≡ with_pointer (r.seat.flow.ip + 2) r1.seat → (c t : List ℕ) → OnState 78 r i c t (Ok tt) r2 i1
+    compile_done x bs r1 r2 i1 g q p f u v c t = λ again a k s l.
         let m = seen r i c t k s in
         let n = inside_tells r.seat.flow.ip 2 r.shared.ends.dp g in
         let y : cell_at (low_of r.shared.ends.dp i) r.seat.flow.ip ≡ x = cell_low r.shared.ends.dp i r.seat.flow.ip (omega (arith, n.0)) (omega (arith, n.1)) ∙ sym q in
@@ -124,4 +124,4 @@ module _ (r : Registers) (i : List ℕ) (li : length i ≡ 65536) where
         next_goes again a m (fits_is true h c t k s) (inside_is r i li c t k s r.seat.flow.ip 2 true g)
         ∙ ap (λ z. quietly (changed (appended (cell z)) (past m))) y
         ∙ ap (λ z. quietly (changed (appended z) (past m))) (sym p)
-        ∙ ap quietly (sym (v c t k s ∙ ap (with_ip (r.seat.flow.ip + 2)) e.1))
+        ∙ ap quietly (sym (pointer_view r1 r2 i1 c t k s (r.seat.flow.ip + 2) u v ∙ ap (with_ip (r.seat.flow.ip + 2)) e.1))

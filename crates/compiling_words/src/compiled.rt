@@ -9,7 +9,6 @@ ghost use Rattle.steps.specs.Does.{seen};
 ghost use Rattle.steps.specs.Seats.{IsAnswered};
 ghost use Rattle.store.specs.Meaning.{Meaning};
 
-use super::flow::set_pointer;
 use appending::{append, compiled, literal};
 use definition::ranged::Registers;
 use fault::{Fault, Reason};
@@ -17,6 +16,7 @@ use kernel_tokens::CompiledWord;
 use steps::cells::{self, Data};
 use steps::faults::ask;
 use steps::inside::ask_inside;
+use steps::pointer::set_pointer;
 
 // LITERAL: the cell is taken off the stack, and pushed when the definition runs.
 pub(crate) fn compile_literal(

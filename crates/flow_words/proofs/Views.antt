@@ -11,7 +11,7 @@ use Rattle.definition.specs.View.{lent, view_of}
 use Rattle.definition.specs.Stacks.{popped, pushed, popped_returns, pushed_returns, go_to, has_returns, has_return_room, has_room}
 use Rattle.steps.specs.Seats.{with_cell_depth, with_return_depth, with_pointer}
 use Rattle.steps.specs.Does.{seen}
-use Rattle.steps.proofs.Exits.{yes, no, depth_of, cells_view}
+use Rattle.steps.proofs.Exits.{yes, no, depth_of, cells_view, pointer_view}
 
 abbrev pub deep : Registers → ℕ
 deep r = r.seat.depths.cells
@@ -67,9 +67,7 @@ module _ (r r' : Registers) (i c c' t t' : List ℕ) (k : List Mark) (s : Meanin
   push_return_view x e = returns_view _ _ e
 
   pub skip_view : Skipped r r' → seen r' i c t k s ≡ with_ip (r.seat.flow.ip + 2) (seen r i c t k s)
-  skip_view e =
-      ap (λ h. view_of h r'.seat (lent i c t k) s) e.shared
-      ∙ ap (λ h. view_of r.shared h (lent i c t k) s) e.seat
+  skip_view e = pointer_view r r' i c t k s _ e.shared e.seat
 
   pub go_view : (a : ℕ) → Went r r' a → seen r' i c t k s ≡ go_to a (seen r i c t k s)
   unfolding stack_of

@@ -9,12 +9,12 @@ use Rattle.stacks.specs.Stack.{stack_of}
 use Rattle.stacks.proofs.Laws.{length_stack, drop_stack}
 use Rattle.definition.specs.declared.registers.Mark.{Mark}
 use Rattle.definition.specs.declared.ranged.Registers.{Registers}
-use Rattle.definition.specs.Machine.{Machine, told, with_cells}
+use Rattle.definition.specs.Machine.{Machine, told, with_cells, with_ip}
 use Rattle.definition.specs.Asked.{Asked, refused, After, quietly}
 use Rattle.definition.specs.View.{lent, view_of}
 use Rattle.fault.specs.declared.Reason.TheVariants.{StackOverflow}
 use Rattle.definition.specs.Stacks.{has_cells, has_room, popped, replaced}
-use Rattle.steps.specs.Seats.{told_by, with_cell_depth}
+use Rattle.steps.specs.Seats.{told_by, with_cell_depth, with_pointer}
 use Rattle.steps.specs.Does.{seen, Does}
 
 pub yes : (a b : ℕ) → a ≤ b → leb a b ≡ true
@@ -52,6 +52,12 @@ cells_view r r' i c c' t k s d xs p q e =
     ap (λ h. view_of h r'.seat (lent i c' t k) s) p
     ∙ ap (λ h. view_of r.shared h (lent i c' t k) s) q
     ∙ ap (λ ys. with_cells ys (seen r i c t k s)) e
+
+-- behind a change of IP alone
+pub pointer_view : (r r' : Registers) (i c t : List ℕ) (k : List Mark) (s : Meaning) (a : ℕ) → r'.shared ≡ r.shared → r'.seat ≡ with_pointer a r.seat → seen r' i c t k s ≡ with_ip a (seen r i c t k s)
+pointer_view r r' i c t k s a p q =
+    ap (λ h. view_of h r'.seat (lent i c t k) s) p
+    ∙ ap (λ h. view_of r.shared h (lent i c t k) s) q
 
 -- what is equal at m is done alike
 pub does_like : (f g : Machine → Asked After) (m m' : Machine) (o : Result (Unit {0}) Fault) → f m ≡ g m → Does g m o m' → Does f m o m'

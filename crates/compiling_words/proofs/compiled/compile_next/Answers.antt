@@ -19,4 +19,4 @@ pub returns-in_err-append-clause-did : goal.returns-in_err-append-clause-did
 returns-in_err-append-clause-did c = absurd (never_full c.args.registers.now c.args.image.now c.told-image c.in_ok-ask.ensures c.compiled.result c.append.new.registers c.append.new.image _ (ap length c.compiled.ensures ∙ two (c.fetch-token.result)) c.in_err-append.ensures.did)
 
 pub returns-clause-did : goal.returns-clause-did
-returns-clause-did c = compile_done c.args.registers.now c.args.image.now c.told-image c.in_ok-ask.ensures c.fetch-token.result c.compiled.result c.append.new.registers c.set_pointer.new.registers c.append.new.image c.in_ok-ask_inside.ensures.0 (cc) c.compiled.ensures c.in_ok-append.ensures.did (c.set_pointer.ensures c.append.new.image)
+returns-clause-did c = compile_done c.args.registers.now c.args.image.now c.told-image c.in_ok-ask.ensures c.fetch-token.result c.compiled.result c.append.new.registers c.set_pointer.new.registers c.append.new.image c.in_ok-ask_inside.ensures.0 (cc) c.compiled.ensures c.in_ok-append.ensures.did c.set_pointer.ensures.shared c.set_pointer.ensures.seat
