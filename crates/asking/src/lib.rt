@@ -7,6 +7,8 @@ ghost use Rattle.definition.specs.Kernel.{has_open, ip_set, ip_zero, none_open};
 ghost use Rattle.fault.specs.declared.Reason.TheVariants.{NotFound};
 ghost use Rattle.steps.specs.Seats.{IsAnswered};
 
+pub mod running;
+
 use definition::ranged::Registers;
 use fault::{Fault, Reason};
 use steps::faults::{ask, refusal};
@@ -66,21 +68,4 @@ pub fn ask_not_running(registers: &Registers) -> Result<(), Fault>
     ensures { StateAnswers (ip_zero ∷ []) registers.now result }
 {
     ask(registers, registers.seat.flow.ip == 0, Reason::WordRunning)
-}
-
-// Is a definition open, and does a word run?
-pub fn ask_open_and_running(registers: &Registers) -> Result<(), Fault>
-    ensures { StateAnswers (has_open ∷ ip_set ∷ []) registers.now result }
-{
-    ask_open(registers)?;
-    ask_running(registers)
-}
-
-// Is none open, and does a word run?
-pub fn ask_shut_and_running(registers: &Registers) -> Result<(), Fault>
-    ensures answers { StateAnswers (none_open ∷ ip_set ∷ []) registers.now result }
-    ensures none { IfOk result (λ _. registers.now.shared.names.opened ≡ 0) }
-{
-    ask_none_open(registers)?;
-    ask_running(registers)
 }

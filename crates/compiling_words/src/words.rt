@@ -8,7 +8,8 @@ ghost use Rattle.steps.specs.Does.{FromState};
 use super::changes::{choose_current, end_definition, give_code, mark_newest};
 use super::compiled::{compile_does, compile_literal, compile_next};
 use super::flow::set_compiling;
-use asking::{ask_none_open, ask_open, ask_open_and_running, ask_shut_and_running};
+use asking::running::{ask_open_and_running, ask_shut_and_running};
+use asking::{ask_none_open, ask_open};
 use definition::ranged::Registers;
 use fault::Fault;
 
