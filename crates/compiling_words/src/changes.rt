@@ -69,8 +69,8 @@ pub(crate) fn mark_newest(registers: &Registers, image: &mut [u8; 65536])
     }
 }
 
-#[tactic(auto, using(crate::proofs::Changed::token_below))]
 // Is the newest entry a created word, with its extra cell in the dictionary?
+#[tactic(auto, using(crate::proofs::Changed::token_below))]
 fn is_made(registers: &Registers, image: &[u8; 65536]) -> bool
     ensures value { result ≡ is_made (low_of registers.now.shared.ends.dp image.now) registers.now.shared.names.newest }
     ensures whole { result ≡ true → (256 ≤ registers.now.shared.names.newest) × (first_at (low_of registers.now.shared.ends.dp image.now) registers.now.shared.names.newest + 4 ≤ registers.now.shared.ends.dp) }
