@@ -78,14 +78,14 @@ module _ (t : ℕ) (m : Machine) (h : in_dictionary t 14 m ≡ true) where
 pub vocabulary_far : (r : Registers) (i : List ℕ) → length i ≡ 65536 → (t : ℕ) (e : Fault) → inside t 14 r.shared.ends.dp ≡ false → e ≡ fault_of BadToken (told_by r.seat) → (c s : List ℕ) (k : List Mark) (w : Meaning) → Does (other_word 204 t) (seen r i c s k w) (Err e) (seen r i c s k w)
 vocabulary_far r i l t e h p c s k w = refused_at (other_word 204 t) (seen r i c s k w) e BadToken (far t (seen r i c s k w) (inside_is r i l c s k w t 14 false h)) p
 
-module _ (r : Registers) (d : Dictionary) (i : List ℕ) (li : length i ≡ 65536) (ro : ReadOff r d) (t : ℕ) (p : Place) (pt : p ≡ told_by r.seat) (h : inside t 14 r.shared.ends.dp ≡ true) where
-  at_seen : (c s : List ℕ) (k : List Mark) (w : Meaning) (due : Result Dict Fault) → sought (t + 4) p (lent.dict_of d i) ≡ due → sought (t + 4) (told (seen r i c s k w)) (dict_of (seen r i c s k w)) ≡ due
-  at_seen c s k w due e = ap (λ y. sought (t + 4) y (dict_of (seen r i c s k w))) (sym pt) ∙ ap (sought (t + 4) p) (dict_seen r d i c s k w li ro) ∙ e
+module _ (r : Registers) (d : Dictionary) (i : List ℕ) (li : length i ≡ 65536) (ro : ReadOff r d) (t v : ℕ) (pv : v ≡ t + 4) (p : Place) (pt : p ≡ told_by r.seat) (h : inside t 14 r.shared.ends.dp ≡ true) where
+  at_seen : (c s : List ℕ) (k : List Mark) (w : Meaning) (due : Result Dict Fault) → sought v p (lent.dict_of d i) ≡ due → sought (t + 4) (told (seen r i c s k w)) (dict_of (seen r i c s k w)) ≡ due
+  at_seen c s k w due e = ap (λ y. sought (t + 4) y (dict_of (seen r i c s k w))) (sym pt) ∙ ap (sought (t + 4) p) (dict_seen r d i c s k w li ro) ∙ ap (λ y. sought y p (lent.dict_of d i)) (sym pv) ∙ e
 
-  pub vocabulary_refused : (d' : Dictionary) (f : Fault) → lent.Did (sought (t + 4) p (lent.dict_of d i)) (lent.dict_of d i) (Err f) (lent.dict_of d' i) → (c s : List ℕ) (k : List Mark) (w : Meaning) → Does (other_word 204 t) (seen r i c s k w) (Err f) (seen r i c s k w)
+  pub vocabulary_refused : (d' : Dictionary) (f : Fault) → lent.Did (sought v p (lent.dict_of d i)) (lent.dict_of d i) (Err f) (lent.dict_of d' i) → (c s : List ℕ) (k : List Mark) (w : Meaning) → Does (other_word 204 t) (seen r i c s k w) (Err f) (seen r i c s k w)
   vocabulary_refused d' f e c s k w = seek_refused t (seen r i c s k w) (inside_is r i li c s k w t 14 true h) f (at_seen c s k w (Err f) e.0)
 
-  pub vocabulary_done : (d' : Dictionary) (r' : Registers) → lent.Did (sought (t + 4) p (lent.dict_of d i)) (lent.dict_of d i) (Ok tt) (lent.dict_of d' i) → PutBack r r' d' → (c s : List ℕ) (k : List Mark) (w : Meaning) → Does (other_word 204 t) (seen r i c s k w) (Ok tt) (seen r' i c s k w)
+  pub vocabulary_done : (d' : Dictionary) (r' : Registers) → lent.Did (sought v p (lent.dict_of d i)) (lent.dict_of d i) (Ok tt) (lent.dict_of d' i) → PutBack r r' d' → (c s : List ℕ) (k : List Mark) (w : Meaning) → Does (other_word 204 t) (seen r i c s k w) (Ok tt) (seen r' i c s k w)
   vocabulary_done d' r' e q c s k w =
       let m = seen r i c s k w in
       let y = seek_found t m (inside_is r i li c s k w t 14 true h) (lent.dict_of d' i) (at_seen c s k w (Ok (lent.dict_of d' i)) e) in

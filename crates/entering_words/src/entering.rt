@@ -3,6 +3,7 @@ ghost use Rattle.std.specs.Prelude.{◌≡◌, ℕ, ◌+◌, ◌<◌, ◌≤◌,
 ghost use Rattle.definition.specs.Stacks.{go_to, pushed_returns};
 ghost use Rattle.definition.specs.Words.{other_word};
 ghost use Rattle.definition.specs.declared.registers.Mark.{Mark};
+ghost use Rattle.image.specs.Cells.{cell_at};
 ghost use Rattle.steps.specs.Does.{Does, seen};
 ghost use Rattle.store.specs.Meaning.{Meaning};
 
@@ -22,7 +23,15 @@ fn enter(registers: &mut Registers, address: u16, returns: &mut [u16; 128])
     go_to(registers, address);
 }
 
-// 201 enters its tokens, which begin behind its first parameter cell.
+// The tokens of a colon word begin behind its first parameter cell.
+fn first_token(token: u16) -> u16
+    requires { token + 2 ≤ 32768 }
+    ensures { result ≡ token + 4 }
+{
+    token + 4
+}
+
+// 201 enters its tokens.
 pub fn colon_word(
     registers: &mut Registers,
     token: u16,
@@ -32,8 +41,24 @@ pub fn colon_word(
     ensures { (i c : List ℕ) (k : List Mark) (s : Meaning) → Does (other_word 201 token) (seen registers.old i c returns.old k s) result (seen registers.new i c returns.new k s) }
 {
     cells::room::<Returns>(registers, 1)?;
-    enter(registers, token + 4, returns);
+    enter(registers, first_token(token), returns);
     Ok(())
+}
+
+// The body of a created word: what its first parameter cell holds.
+fn body_at(image: &[u8; 65536], token: u16) -> u16
+    requires { token + 6 ≤ 32768 }
+    ensures { result ≡ cell_at image.now (token + 2) }
+{
+    image::fetch(image, usize::from(token) + 2)
+}
+
+// Its DOES> code: what the cell behind that holds.
+fn code_at(image: &[u8; 65536], token: u16) -> u16
+    requires { token + 6 ≤ 32768 }
+    ensures { result ≡ cell_at image.now (token + 4) }
+{
+    image::fetch(image, usize::from(token) + 4)
 }
 
 // 205 pushes its body, and enters its DOES> code.
@@ -49,8 +74,8 @@ pub fn does_word(
     ask_inside(registers, token, 6)?;
     cells::room::<Data>(registers, 1)?;
     cells::room::<Returns>(registers, 1)?;
-    let body = image::fetch(image, usize::from(token) + 2);
-    let code = image::fetch(image, usize::from(token) + 4);
+    let body = body_at(image, token);
+    let code = code_at(image, token);
     cells::push::<Data>(registers, cells, body);
     enter(registers, code, returns);
     Ok(())

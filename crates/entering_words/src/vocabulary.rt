@@ -1,5 +1,5 @@
 // Vocabularies.
-ghost use Rattle.std.specs.Prelude.{◌≡◌, ℕ, List};
+ghost use Rattle.std.specs.Prelude.{◌≡◌, ℕ, ◌+◌, ◌≤◌, List};
 ghost use Rattle.definition.specs.Words.{other_word};
 ghost use Rattle.definition.specs.declared.registers.Mark.{Mark};
 ghost use Rattle.steps.specs.Does.{Does, seen};
@@ -12,7 +12,15 @@ use steps::faults::place;
 use steps::inside::ask_inside;
 use vocabularies::seek;
 
-// 204 becomes CONTEXT. Its first head lies behind its first parameter cell.
+// The first head of a vocabulary lies behind its first parameter cell.
+fn first_head(token: u16) -> u16
+    requires { token + 14 ≤ 32768 }
+    ensures { result ≡ token + 4 }
+{
+    token + 4
+}
+
+// 204 becomes CONTEXT.
 pub fn vocabulary_word(
     registers: &mut Registers,
     token: u16,
@@ -22,7 +30,7 @@ pub fn vocabulary_word(
 {
     ask_inside(registers, token, 14)?;
     let mut d = dictionary_of(registers);
-    seek(&mut d, image, token + 4, place(registers))?;
+    seek(&mut d, image, first_head(token), place(registers))?;
     keep(registers, d);
     Ok(())
 }

@@ -25,6 +25,6 @@ returns-in_err-room-2 c =
 pub returns : goal.returns
 returns c =
     does_done c.args.registers.now c.args.image.now c.args.cells.now c.args.returns.now c.told-image c.told-cells c.told-returns c.args.token
-    c.push.new.registers c.enter.new.registers c.push.new.cells c.enter.new.returns c.fetch-body.result c.fetch-code.result
-    c.in_ok-ask_inside.ensures.0 c.in_ok-room.ensures c.in_ok-room-2.ensures (cc) (cc)
+    c.push.new.registers c.enter.new.registers c.push.new.cells c.enter.new.returns c.body_at-body.result c.code_at-code.result
+    c.in_ok-ask_inside.ensures.0 c.in_ok-room.ensures c.in_ok-room-2.ensures c.body_at-body.ensures c.code_at-code.ensures
     (record { shared = c.push.ensures.shared; seat = c.push.ensures.seat; stack = c.push.ensures.stack }) (ap (λ (y : Seat). y.flow.ip) c.push.ensures.seat) c.enter.ensures

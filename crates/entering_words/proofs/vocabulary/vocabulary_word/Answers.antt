@@ -12,10 +12,10 @@ pub returns-in_err-seek : goal.returns-in_err-seek
 returns-in_err-seek c =
     let p = err_from_is_err_and c.from_residual-in_err-seek.result c.from_residual-in_err-seek.ensures.1 in
     let d = c.dictionary_of-d.ensures in
-    rw (p.1, p.2) (vocabulary_refused c.args.registers.now c.dictionary_of-d.result c.args.image.now c.told-image (record { ends = d.ends; names = d.names; order = d.order }) c.args.token c.place.result c.place.ensures c.in_ok-ask_inside.ensures.0 c.seek.new.d _ c.in_err-seek.ensures)
+    rw (p.1, p.2) (vocabulary_refused c.args.registers.now c.dictionary_of-d.result c.args.image.now c.told-image (record { ends = d.ends; names = d.names; order = d.order }) c.args.token c.first_head.result c.first_head.ensures c.place.result c.place.ensures c.in_ok-ask_inside.ensures.0 c.seek.new.d _ c.in_err-seek.ensures)
 
 pub returns : goal.returns
 returns c =
     let d = c.dictionary_of-d.ensures in
-    vocabulary_done c.args.registers.now c.dictionary_of-d.result c.args.image.now c.told-image (record { ends = d.ends; names = d.names; order = d.order }) c.args.token c.place.result c.place.ensures c.in_ok-ask_inside.ensures.0
+    vocabulary_done c.args.registers.now c.dictionary_of-d.result c.args.image.now c.told-image (record { ends = d.ends; names = d.names; order = d.order }) c.args.token c.first_head.result c.first_head.ensures c.place.result c.place.ensures c.in_ok-ask_inside.ensures.0
     c.seek.new.d c.keep.new.registers c.in_ok-seek.ensures (record { shared = c.keep.ensures.shared; seat = c.keep.ensures.seat })
