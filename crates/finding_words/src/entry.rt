@@ -1,4 +1,4 @@
-// The entry of a name that follows in the text.
+// The entry of a name that follows in the text, and its token.
 ghost use Rattle.std.specs.Prelude.{◌≡◌, ◌+◌, ◌≤◌};
 ghost use Rattle.entries.specs.Entries.{token_of};
 ghost use Rattle.finding_words.specs.Entries.{TookEntry};
@@ -12,7 +12,7 @@ use finding::searching::search;
 use texts::names::take_name;
 
 // Takes a name, and finds its entry in the search order.
-pub fn take_entry(registers: &mut Registers, image: &[u8; 65536]) -> Result<u16, Fault>
+pub(crate) fn take_entry(registers: &mut Registers, image: &[u8; 65536]) -> Result<u16, Fault>
     ensures shared { registers.new.shared ≡ registers.old.shared }
     ensures took { TookEntry registers.old image.now result registers.new }
 {
@@ -22,7 +22,7 @@ pub fn take_entry(registers: &mut Registers, image: &[u8; 65536]) -> Result<u16,
 }
 
 // Its token.
-pub fn token_at(registers: &Registers, image: &[u8; 65536], entry: u16) -> u16
+pub(crate) fn token_at(registers: &Registers, image: &[u8; 65536], entry: u16) -> u16
     requires { (258 ≤ entry) × (entry + 7 ≤ registers.now.shared.ends.dp) }
     ensures { result ≡ token_of (low_of registers.now.shared.ends.dp image.now) entry }
 {

@@ -1,6 +1,6 @@
 // The words that find a word, and those that take the text up to a byte: ' ( ['] [COMPILE] ."
 #![tactic(auto)]
 
-pub mod entry;
+mod entry;
 pub mod quoting;
 pub mod words;

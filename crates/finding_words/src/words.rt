@@ -4,7 +4,7 @@ ghost use Rattle.steps.specs.Does.{FromText};
 ghost use Rattle.texts.specs.Strings.{TookTo};
 
 use super::entry::{take_entry, token_at};
-use appending::{append, literal};
+use appending::{append, compiled, literal};
 use asking::ask_open;
 use definition::ranged::Registers;
 use fault::Fault;
@@ -58,5 +58,5 @@ pub fn bracket_compile(registers: &mut Registers, image: &mut [u8; 65536]) -> Re
     let entry = take_entry(registers, image)?;
     ask_open(registers)?;
     let token = token_at(registers, image, entry);
-    append(registers, image, &token.to_le_bytes())
+    append(registers, image, &compiled(token))
 }

@@ -1,6 +1,4 @@
 use Rattle.std.proofs.lemmas.Result.{err_from_is_err_and}
-use Rattle.std.proofs.Common.{◌∙◌}
-use Rattle.dictionary.proofs.Growing.{le_bytes_are_cell}
 use Rattle.asking.proofs.Words.{no_text, no_state}
 use Rattle.finding_words.proofs.Ends.{compiled_done}
 use Rattle.finding_words.proofs.words.bracket_compile.Goals as goal
@@ -19,4 +17,4 @@ returns-in_err-ask_open-clause-did c d =
 pub returns-clause-did : goal.returns-clause-did
 returns-clause-did c d =
     let h = c.in_ok-entry.ensures.took in
-    compiled_done c.args.registers.now c.take_entry.new.registers c.args.image.now h.2.0 c.in_ok-entry.entry h.2.1 c.token_at-token.result c.token_at-token.ensures c.append.result c.append.new.registers c.in_ok-ask_open.ensures c.to_le_bytes.result c.append.new.image c.append.ensures.did (c.to_le_bytes.ensures ∙ le_bytes_are_cell c.token_at-token.result c.token_at-token.type_inv) d
+    compiled_done c.args.registers.now c.take_entry.new.registers c.args.image.now h.2.0 c.in_ok-entry.entry h.2.1 c.token_at-token.result c.token_at-token.ensures c.append.result c.append.new.registers c.in_ok-ask_open.ensures c.compiled.result c.append.new.image c.append.ensures.did c.compiled.ensures d
