@@ -1,1 +1,2 @@
 pub mod Defining
+pub mod Made

@@ -3,11 +3,10 @@ ghost use Rattle.std.specs.Prelude.{◌≡◌, ℕ, List, take};
 ghost use Rattle.defining_words.specs.Defining.{compiling};
 ghost use Rattle.steps.specs.Does.{FromText};
 
-use super::making::{begin_colon, define, define_vocabulary};
+use super::making::{Made, begin_colon, define, define_vocabulary};
 use super::names::{colon_name, new_name};
 use super::space::{ask_cell_space, ask_entry_space, grow_by_cell};
 use definition::ranged::Registers;
-use dictionary::code::{CONSTANT, CREATED};
 use fault::Fault;
 use steps::cells::{self, Data};
 
@@ -17,7 +16,7 @@ pub fn create(registers: &mut Registers, image: &mut [u8; 65536]) -> Result<(), 
     ensures below { take 256 image.new ≡ take 256 image.old }
 {
     let name = new_name(registers, image)?;
-    define(registers, image, &name, CREATED, 0)
+    define(registers, image, &name, Made::Created)
 }
 
 // VARIABLE
@@ -28,7 +27,7 @@ pub fn variable(registers: &mut Registers, image: &mut [u8; 65536]) -> Result<()
     let name = new_name(registers, image)?;
     ask_entry_space(registers, &name)?;
     ask_cell_space(registers)?;
-    define(registers, image, &name, CREATED, 0)?;
+    define(registers, image, &name, Made::Created)?;
     grow_by_cell(registers, image);
     Ok(())
 }
@@ -45,7 +44,7 @@ pub fn constant(
     let name = new_name(registers, image)?;
     cells::need::<Data>(registers, 1)?;
     let value = cells::cell::<Data>(registers, cells, 0);
-    define(registers, image, &name, CONSTANT, value)?;
+    define(registers, image, &name, Made::Constant(value))?;
     cells::release::<Data>(registers, cells, 1);
     Ok(())
 }
