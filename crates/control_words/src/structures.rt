@@ -1,5 +1,5 @@
 // What each word takes, appends and leaves.
-ghost use Rattle.std.specs.Prelude.{◌≡◌, ◌+◌, ◌≤◌, Some, None};
+ghost use Rattle.std.specs.Prelude.{◌≡◌, ◌+◌, ◌%◌, ◌≤◌, Some, None};
 ghost use Rattle.control_words.specs.Structures.{jump_bytes, IsFor};
 ghost use Rattle.control_words.specs.declared.structures.Leaves.TheVariants.{Nothing};
 
@@ -85,8 +85,14 @@ fn mark_behind(kind: Kind, dp: u16) -> Mark
     }
 }
 
-// The structure of a word, with DP and the addresses of the two top marks. A loop goes back behind the cell at its mark: an address
-// whose cell does not lie in the dictionary is refused, so that the sum need not fit.
+// Behind the cell at an address, to which a loop goes back. A cell that does not lie in the dictionary is refused: the sum need not fit.
+fn behind(cell: u16) -> u16
+    ensures { result ≡ (cell + 2) % 65536 }
+{
+    cell.wrapping_add(2)
+}
+
+// The structure of a word, with DP and the addresses of the two top marks.
 pub(crate) fn structure_of(word: ControlWord, dp: u16, top: u16, under: u16) -> Structure
     requires { dp ≤ 32768 }
     ensures { IsFor word dp top under result }
@@ -152,13 +158,13 @@ pub(crate) fn structure_of(word: ControlWord, dp: u16, top: u16, under: u16) -> 
         ControlWord::Loop => backward(
             Takes::One(Kind::Do),
             CompiledWord::Loop,
-            top.wrapping_add(2),
+            behind(top),
             Some(top),
         ),
         ControlWord::PlusLoop => backward(
             Takes::One(Kind::Do),
             CompiledWord::PlusLoop,
-            top.wrapping_add(2),
+            behind(top),
             Some(top),
         ),
     }

@@ -26,7 +26,7 @@ pub returns-in-Do : goal.returns-in-Do
 returns-in-Do c = rw (c.in-Do.is, c.forward-in-Do.ensures, c.mark_behind-in-Do.ensures) (for_do c.args.dp c.args.top c.args.under)
 
 pub returns-in-Loop : goal.returns-in-Loop
-returns-in-Loop c = rw (c.in-Loop.is, c.backward-in-Loop.ensures) (for_loop c.args.dp c.args.top c.args.under c.requires)
+returns-in-Loop c = rw (c.in-Loop.is, c.backward-in-Loop.ensures, c.behind.ensures) (for_loop c.args.dp c.args.top c.args.under c.requires)
 
 pub returns-in-PlusLoop : goal.returns-in-PlusLoop
-returns-in-PlusLoop c = rw (c.in-PlusLoop.is, c.backward-in-PlusLoop.ensures) (for_plus_loop c.args.dp c.args.top c.args.under c.requires)
+returns-in-PlusLoop c = rw (c.in-PlusLoop.is, c.backward-in-PlusLoop.ensures, c.behind-in-PlusLoop.ensures) (for_plus_loop c.args.dp c.args.top c.args.under c.requires)
