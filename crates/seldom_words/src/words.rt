@@ -2,6 +2,9 @@
 ghost use Rattle.std.specs.Prelude.{◌≡◌, ◌≢◌, take};
 ghost use Rattle.codes.specs.Codes.{SeldomCoded};
 ghost use Rattle.codes.specs.Performs.{memory, FullKeeps, Performs};
+ghost use Rattle.fault.specs.Numbers.{fault_of};
+ghost use Rattle.fault.specs.declared.Reason.TheVariants.{Aborted};
+ghost use Rattle.steps.specs.Seats.{told_by};
 
 use asking_words::building::building;
 use asking_words::growing::{allotting, appending, loading};
@@ -21,6 +24,13 @@ use steps::progress::Progress;
 use store::Store;
 use token_words::tokens::body_word;
 use typing_words::output::Output;
+
+// ABORT is a fault itself.
+fn abort(registers: &Registers) -> Fault
+    ensures { result ≡ fault_of Aborted (told_by registers.now.seat) }
+{
+    refusal(registers, Reason::Aborted)
+}
 
 // Does what the word of this code and token does. EXECUTE is gone through before: its arm is never taken.
 pub fn seldom_word<S: Store>(
@@ -50,7 +60,7 @@ pub fn seldom_word<S: Store>(
         SeldomWord::Block(word) => went(block_word(registers, word, image, cells, store)),
         SeldomWord::Load => went(loading(registers, cells)),
         SeldomWord::ToBody => went(body_word(registers, image, cells)),
-        SeldomWord::Abort => Err(refusal(registers, Reason::Aborted)),
+        SeldomWord::Abort => Err(abort(registers)),
         SeldomWord::Naming(word) => went(naming_word(registers, word, image, cells)),
         SeldomWord::Compiling(word) => {
             went(compiling_word(registers, word, image, cells, returns))

@@ -95,12 +95,12 @@ returns-in-Typing-clause-did g c =
 
 pub returns-in-Abort-clause-did : goal.returns-in-Abort-clause-did
 returns-in-Abort-clause-did g c =
-    acts_performs 63 c.args.number c.args.token c.args.registers.now c.args.registers.now (Err c.refusal.result) (Err c.refusal.result) (subst (SeldomCoded c.args.number) c.in-Abort.is c.requires.coded) refl c.args.image.now c.args.cells.now c.args.returns.now c.args.image.now c.args.cells.now c.args.returns.now c.args.marks.now c.args.marks.now c.args.output.now.bytes.now c.args.output.now.typed (g.S.Store.means c.args.store.now) (g.S.Store.means c.args.store.now) abort_row
-    (λ again. (abort_refuses again c.refusal.result (seen c.args.registers.now c.args.image.now c.args.cells.now c.args.returns.now c.args.marks.now (g.S.Store.means c.args.store.now)) c.refusal.ensures))
+    acts_performs 63 c.args.number c.args.token c.args.registers.now c.args.registers.now (Err c.abort.result) (Err c.abort.result) (subst (SeldomCoded c.args.number) c.in-Abort.is c.requires.coded) refl c.args.image.now c.args.cells.now c.args.returns.now c.args.image.now c.args.cells.now c.args.returns.now c.args.marks.now c.args.marks.now c.args.output.now.bytes.now c.args.output.now.typed (g.S.Store.means c.args.store.now) (g.S.Store.means c.args.store.now) abort_row
+    (λ again. (abort_refuses again c.abort.result (seen c.args.registers.now c.args.image.now c.args.cells.now c.args.returns.now c.args.marks.now (g.S.Store.means c.args.store.now)) c.abort.ensures))
 
 pub returns-in-Execute-clause-did : goal.returns-in-Execute-clause-did
 returns-in-Execute-clause-did g c = λ again.
     let m = seen c.args.registers.now c.args.image.now c.args.cells.now c.args.returns.now c.args.marks.now (g.S.Store.means c.args.store.now) in
     quiet (coded again c.args.number c.args.token) c.args.registers.now c.args.registers.now c.args.image.now c.args.cells.now c.args.returns.now c.args.image.now c.args.cells.now c.args.returns.now c.args.marks.now c.args.marks.now (g.S.Store.means c.args.store.now) (g.S.Store.means c.args.store.now)
-    c.args.output.now.bytes.now c.args.output.now.typed (Err c.refusal-in-Execute.result)
-    (unknown_refuses again c.args.number c.args.token c.refusal-in-Execute.result m (not_known c.args.number c.args.word c.requires.coded c.requires.other c.in-Execute.is) c.refusal-in-Execute.ensures)
+    c.args.output.now.bytes.now c.args.output.now.typed (Err c.refusal.result)
+    (unknown_refuses again c.args.number c.args.token c.refusal.result m (not_known c.args.number c.args.word c.requires.coded c.requires.other c.in-Execute.is) c.refusal.ensures)
