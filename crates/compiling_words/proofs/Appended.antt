@@ -21,7 +21,7 @@ use Rattle.definition.specs.Stacks.{has_cells, nth, popped}
 use Rattle.definition.specs.Words.{Argument, perform}
 use Rattle.steps.specs.Inside.{inside}
 use Rattle.steps.specs.Seats.{told_by, with_cell_depth, with_pointer}
-use Rattle.steps.specs.Does.{seen, acts, Refuses}
+use Rattle.steps.specs.Does.{seen, acts, IsRefused}
 use Rattle.steps.proofs.Exits.{refused_at, does_like, has_cells_lem, lacks_cells, cells_view, pointer_view}
 use Rattle.steps.proofs.Dictionary.{low_long, inside_tells, inside_is}
 use Rattle.appending.specs.Spaces.{in_space, InSpace}
@@ -63,7 +63,7 @@ module _ (r : Registers) (i c : List ℕ) (lc : length c ≡ 128) where
     literal_full r1 i1 e f t = λ again a k s l.
         let m = seen r i c t k s in
         let d = f c t k s in
-        (subst (λ (y : Asked After). Refuses y e m) (sym (literal_is again a t k s)) (full_like (fits (length bs) m) m _ (popped 1 m) _ e refl refl d.0), d.1)
+        (subst (λ (y : Asked After). IsRefused y e m) (sym (literal_is again a t k s)) (full_like (fits (length bs) m) m _ (popped 1 m) _ e refl refl d.0), d.1)
 
     pub literal_done : (r1 r2 : Registers) (i1 : List ℕ) → InSpace (length bs) (appended bs) r i (Ok tt) r1 i1 → r1.seat.depths ≡ r.seat.depths → r2.shared ≡ r1.shared → r2.seat ≡ with_cell_depth (r1.seat.depths.cells - 1) r1.seat → stack_of (r1.seat.depths.cells - 1) c ≡ drop 1 (stack_of r1.seat.depths.cells c) → (t : List ℕ) → OnState 75 r i c t (Ok tt) r2 i1
     literal_done r1 r2 i1 f d u v w t = λ again a k s l.
@@ -112,7 +112,7 @@ module _ (r : Registers) (i : List ℕ) (li : length i ≡ 65536) where
     never_full bs r1 i1 e n f =
         let m = seen r i [] [] [] (record { count = 0; writable = false; blocks = [] }) in
         let d = (f [] [] [] (record { count = 0; writable = false; blocks = [] })).0 in
-        subst (λ b. Refuses (ask m DictionaryFull b >> quietly (changed (appended bs) m)) e m) (ap (λ y. fits y m) n ∙ fits_is true h [] [] [] (record { count = 0; writable = false; blocks = [] })) d
+        subst (λ b. IsRefused (ask m DictionaryFull b >> quietly (changed (appended bs) m)) e m) (ap (λ y. fits y m) n ∙ fits_is true h [] [] [] (record { count = 0; writable = false; blocks = [] })) d
 
     pub compile_done : (x : ℕ) (bs : List ℕ) (r1 r2 : Registers) (i1 : List ℕ) → inside r.seat.flow.ip 2 r.shared.ends.dp ≡ true → x ≡ cell_at i r.seat.flow.ip → bs ≡ cell x → InSpace (length bs) (appended bs) r i (Ok tt) r1 i1
         → r2.shared ≡ r1.shared → r2.seat ≡ with_pointer (r.seat.flow.ip + 2) r1.seat → (c t : List ℕ) → OnState 78 r i c t (Ok tt) r2 i1

@@ -24,7 +24,7 @@ use Rattle.definition.specs.Flow.{exited}
 use Rattle.definition.specs.Stacks.{has_returns, popped_returns, go_to}
 use Rattle.definition.specs.Words.{Argument, perform}
 use Rattle.steps.specs.Seats.{told_by}
-use Rattle.steps.specs.Does.{seen, acts, Refuses}
+use Rattle.steps.specs.Does.{seen, acts, IsRefused}
 use Rattle.steps.proofs.Exits.{refused_at}
 use Rattle.seat_dictionary.proofs.Changing.{ReadOff, PutBack, read_back, changed_view}
 use Rattle.flow_words.proofs.Views.{PoppedReturns, Went, pop_return_view, go_view, has_returns_lem, lacks_returns}
@@ -76,7 +76,7 @@ module _ (r : Registers) (i bs : List ℕ) (p : bs ≡ token 91) (h : eqb r.seat
   end_full r1 i1 e f c t = λ again a k s l.
       let m = seen r i c t k s in
       let d = f c t k s in
-      (subst (λ (y : Asked After). Refuses y e m) (sym (end_is again a c t k s l)) (full_stays (fits (length bs) m) m _ _ e d.0), d.1)
+      (subst (λ (y : Asked After). IsRefused y e m) (sym (end_is again a c t k s l)) (full_stays (fits (length bs) m) m _ _ e d.0), d.1)
 
   module _ (r1 : Registers) (i1 : List ℕ) (f : InSpace (length bs) (appended bs) r i (Ok tt) r1 i1) where
     pub still_open : r1.shared.names.opened ≡ r.shared.names.opened

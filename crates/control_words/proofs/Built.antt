@@ -18,12 +18,12 @@ use Rattle.definition.specs.declared.registers.Kind.{Kind}
 use Rattle.definition.specs.declared.registers.Mark.{Mark}
 use Rattle.definition.specs.declared.ranged.Registers.{Registers}
 use Rattle.definition.specs.Machine.{Machine, with_marks, changed}
-use Rattle.definition.specs.Asked.{Asked, refused, given, ask, ◌>>◌, After, quietly}
+use Rattle.definition.specs.Asked.{Asked, refused, ask, ◌>>◌, After, quietly}
 use Rattle.definition.specs.Define.{fits}
 use Rattle.definition.specs.Flow.{in_dictionary}
 use Rattle.definition.specs.Compile.{are_marks, are_cells, resolved, structured}
 use Rattle.steps.specs.Seats.{told_by}
-use Rattle.steps.specs.Does.{seen, Refuses}
+use Rattle.steps.specs.Does.{seen, IsRefused}
 use Rattle.steps.proofs.Exits.{refused_at}
 use Rattle.steps.proofs.Dictionary.{low_long, inside_is}
 use Rattle.seat_dictionary.proofs.Changing.{ReadOff, read_back, changed_view}
@@ -112,7 +112,7 @@ module _ (x : Structure) (r : Registers) (i : List ℕ) (k : List Mark) (li : le
         no_bytes r1 i1 e f c t s =
             let m = seen r i c t k s in
             let d = f c t k s in
-            (subst (λ y. Refuses y e m) (sym (asked c t s)) (full_stays (fits (length (bytes_of x.appends)) m) m _ _ e d.0), d.1)
+            (subst (λ y. IsRefused y e m) (sym (asked c t s)) (full_stays (fits (length (bytes_of x.appends)) m) m _ _ e d.0), d.1)
 
         module _ (r1 : Registers) (i1 : List ℕ) (f : InSpace (length (bytes_of x.appends)) (appended (bytes_of x.appends)) r i (Ok tt) r1 i1) (li1 : length i1 ≡ 65536) where
           pub wider : r.shared.ends.dp ≤ r1.shared.ends.dp

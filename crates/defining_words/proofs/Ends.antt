@@ -24,7 +24,7 @@ use Rattle.definition.specs.Stacks.{has_cells, nth, popped}
 use Rattle.definition.specs.Words.{perform}
 use Rattle.definition.proofs.Agreeing.{dp_bottom}
 use Rattle.steps.specs.Seats.{told_by, with_cell_depth}
-use Rattle.steps.specs.Does.{seen, Does, Did, Refuses, IsRefused, FromText}
+use Rattle.steps.specs.Does.{seen, Does, Did, IsRefused, FromText}
 use Rattle.steps.proofs.Exits.{yes, no, has_cells_lem, lacks_cells, cells_view}
 use Rattle.seat_dictionary.proofs.Changing.{here_seen}
 use Rattle.asking.specs.Asking.{Took, StateAnswers}
@@ -37,8 +37,8 @@ asked_no : {A : Type 0} (m : Machine) (why : Reason) (b : Bool) (x : Asked A) (e
 asked_no m why b x e h p = rw h (p, refl)
 
 -- the same refusal, with something else to follow
-still_no : (m m' : Machine) (b : Bool) (why : Reason) (x y : Asked After) (e : Fault) → (m1 : Machine) → x ≡ quietly m1 → Refuses (ask m why b >> x) e m' → IsRefused (ask m why b >> y) e m'
-still_no m m' true why x y e m1 q h = let P : Asked After → Type 0 = λ z. Refuses z e m' in absurd (subst P q h)
+still_no : (m m' : Machine) (b : Bool) (why : Reason) (x y : Asked After) (e : Fault) → (m1 : Machine) → x ≡ quietly m1 → IsRefused (ask m why b >> x) e m' → IsRefused (ask m why b >> y) e m'
+still_no m m' true why x y e m1 q h = let P : Asked After → Type 0 = λ z. IsRefused z e m' in absurd (subst P q h)
 still_no m m' false why x y e m1 q h = h
 
 machine_or : Machine → Asked After → Machine
@@ -208,7 +208,7 @@ module _ (r r1 : Registers) (i name : List ℕ) (h : Took Kernel.a_name r i name
             with_entry_space c (Err e) r2 i'
             (λ t k s.
             let m = seen r1 i c t k s in
-            let P : Bool → Type 0 = λ b. Refuses (ask m DictionaryFull b >> quietly (changed variable_entry m)) e m in
+            let P : Bool → Type 0 = λ b. IsRefused (ask m DictionaryFull b >> quietly (changed variable_entry m)) e m in
             absurd (subst P (fits_by true (yes (r1.shared.ends.dp + size name) 32768 l) c t k s) (d c t k s).0))
 
         pub variable_done : (r2 r3 : Registers) (i' i'' : List ℕ) → r1.shared.ends.here + 2 ≤ 65535 → InSpace (size name) variable_entry r1 i (Ok tt) r2 i' → r2.shared.ends.here ≡ r1.shared.ends.here → length i' ≡ 65536 → r3.shared ≡ with_here (r2.shared.ends.here + 2) r2.shared → r3.seat ≡ r2.seat → i'' ≡ overwritten r2.shared.ends.here (cell 0) i' → (c : List ℕ) → FromText 67 r i c (Ok tt) r3 i'' c

@@ -70,7 +70,12 @@ pub(crate) fn define(
         name: name.text(),
         code: made.code(),
     };
-    d.define(image, &header, &made.value().to_le_bytes(), place(registers))?;
+    d.define(
+        image,
+        &header,
+        &made.value().to_le_bytes(),
+        place(registers),
+    )?;
     keep(registers, d);
     Ok(())
 }

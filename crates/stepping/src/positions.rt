@@ -1,4 +1,4 @@
-// Where a step goes on, and goes back to where it is not taken.
+// Where a step goes back to if it is not taken.
 ghost use Rattle.std.specs.Prelude.{◌≡◌, ℕ, ◌≤◌, List};
 ghost use Rattle.definition.specs.Machine.{with_ip};
 ghost use Rattle.definition.specs.declared.registers.Mark.{Mark};
@@ -9,17 +9,11 @@ ghost use Rattle.store.specs.Meaning.{Meaning};
 use definition::ranged::Registers;
 use definition::registers::Source;
 
-pub(crate) fn set_pointer(registers: &mut Registers, address: u16)
-    ensures { (i c t : List ℕ) (k : List Mark) (s : Meaning) → seen registers.new i c t k s ≡ with_ip address (seen registers.old i c t k s) }
-{
-    registers.seat.flow.ip = address;
-}
-
 // The text, where it goes on, and its last word; then IP.
 pub(crate) fn go_back(registers: &mut Registers, source: Source, ip: u16)
     requires { (source.length ≤ 128) × (source.position.offset ≤ 1024) }
     ensures { (i c t : List ℕ) (k : List Mark) (s : Meaning) → seen registers.new i c t k s ≡ with_ip ip (with_source source (seen registers.old i c t k s)) }
 {
     registers.seat.source = source;
-    set_pointer(registers, ip);
+    registers.seat.flow.ip = ip;
 }

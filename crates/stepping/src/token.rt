@@ -2,10 +2,10 @@
 ghost use Rattle.std.specs.Prelude.{◌≡◌};
 ghost use Rattle.stepping.specs.Steps.{TakesToken};
 
-use super::positions::set_pointer;
 use definition::ranged::Registers;
 use fault::Fault;
 use steps::inside::ask_inside;
+use steps::pointer::set_pointer;
 
 // Takes it, and IP goes behind it.
 pub(crate) fn take_token(registers: &mut Registers, image: &[u8; 65536]) -> Result<u16, Fault>

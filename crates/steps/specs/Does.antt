@@ -21,20 +21,15 @@ seen r i c t k s = view_of r.shared r.seat (lent i c t k) s
 abbrev pub acts : ℕ → (ℕ → Machine → Asked After) → Argument → Machine → Asked After
 acts n again a m = perform again (row_of n).action a m
 
--- the answer is the fault e: its reason, told at a machine of which a fault leaves the same as of m
-abbrev pub Refuses : Asked After → Fault → Machine → Type 0
-Refuses (refused why m') e m = (e ≡ fault_of why (told m')) × (cleared m' ≡ cleared m)
-Refuses (given a) e m = ⊥
+-- what was asked is refused by the fault e: its reason, told at a machine of which a fault leaves the same as of m
+abbrev pub IsRefused : {A : Type 0} → Asked A → Fault → Machine → Type 0
+IsRefused (refused why m') e m = (e ≡ fault_of why (told m')) × (cleared m' ≡ cleared m)
+IsRefused (given a) e m = ⊥
 
 -- a call that was to do `f` at m answered o and left m': nothing was typed, and a fault changes nothing
 abbrev pub Does : (Machine → Asked After) → Machine → Result (Unit {0}) Fault → Machine → Type 0
 Does f m (Ok _) m' = f m ≡ quietly m'
-Does f m (Err e) m' = Refuses (f m) e m × (m' ≡ m)
-
--- the same of any answer that is asked for
-abbrev pub IsRefused : {A : Type 0} → Asked A → Fault → Machine → Type 0
-IsRefused (refused why m') e m = (e ≡ fault_of why (told m')) × (cleared m' ≡ cleared m)
-IsRefused (given a) e m = ⊥
+Does f m (Err e) m' = IsRefused (f m) e m × (m' ≡ m)
 
 -- The same for what takes words from the text or writes a buffer out: x was to be answered, and a fault leaves what it leaves of m'.
 abbrev pub Did : Asked After → Result (Unit {0}) Fault → Machine → Type 0
