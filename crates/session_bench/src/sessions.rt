@@ -85,19 +85,31 @@ fn failing_move<S: Store>(
     None
 }
 
-// The first move of a session that fails, by its number and the part; or what the session leaves, behind its last move.
-fn failing<S: Store + Drop>(card: S, moves: &[Move], left: &str) -> Option<(usize, &'static str)> {
+// The line that a move gives, if any.
+fn line_of(made: Move) -> Option<&'static str> {
+    match made {
+        Move::Types(line, ..) | Move::Gives(line) => Some(line),
+        Move::Runs(..) | Move::Locks | Move::Pokes(..) => None,
+    }
+}
+
+// What fails in a session: the line, and which part of it, or of what is left behind it.
+pub type Failing = (&'static str, &'static str);
+
+fn failing<S: Store + Drop>(card: S, moves: &[Move], left: &str) -> Option<Failing> {
     let mut bench = Bench::booted();
     let mut card = Switched::new(card);
-    for (i, made) in moves.iter().enumerate() {
+    let mut line = "";
+    for made in moves {
+        line = line_of(*made).unwrap_or(line);
         if let Some(part) = failing_move(&mut bench, &mut card, *made) {
-            return Some((i, part));
+            return Some((line, part));
         }
     }
     if bench.is_left(left) {
         None
     } else {
-        Some((moves.len(), "machine that is left"))
+        Some((line, "machine that is left"))
     }
 }
 
@@ -120,25 +132,22 @@ fn write_texts(bytes: &mut [u8; 16384], blocks: &[BlockText]) -> Option<()> {
 }
 
 // On a memory card with these texts.
-fn failing_on(blocks: &[BlockText], moves: &[Move], left: &str) -> Option<(usize, &'static str)> {
+fn failing_on(blocks: &[BlockText], moves: &[Move], left: &str) -> Option<Failing> {
     let mut bytes = [0; 16384];
     if write_texts(&mut bytes, blocks).is_none() {
-        return Some((0, "blocks"));
+        return Some(("", "blocks"));
     }
     failing(MemoryCard::new(&mut bytes), moves, left)
 }
 
 impl Session {
-    // The first move that fails, by its number and the part; or what is left, behind the last move.
-    pub fn failing(&self) -> Option<(usize, &'static str)> {
+    pub fn failing(&self) -> Option<Failing> {
         failing_on(self.blocks, self.moves, self.left)
     }
 }
 
-// Which part of a row fails.
-pub fn failing_row(&(line, end, steps, typed, left): &Row) -> Option<&'static str> {
-    let (_, part) = failing_on(&[], &[Move::Types(line, end, steps, typed)], left)?;
-    Some(part)
+pub fn failing_row(&(line, end, steps, typed, left): &Row) -> Option<Failing> {
+    failing_on(&[], &[Move::Types(line, end, steps, typed)], left)
 }
 
 // The same as a session, on a card over lines of text.
@@ -147,7 +156,7 @@ pub fn failing_on_text(
     text: &[u8],
     moves: &[Move],
     left: &str,
-) -> Result<Option<(usize, &'static str)>, AllocError> {
+) -> Result<Option<Failing>, AllocError> {
     let card = TextCard::new(heap, text)?;
     Ok(failing(card, moves, left))
 }
