@@ -16,6 +16,8 @@ mod loops;
 #[cfg(test)]
 mod naming;
 #[cfg(test)]
+mod search_order;
+#[cfg(test)]
 mod text;
 #[cfg(test)]
 mod text_cards;
@@ -23,5 +25,3 @@ mod text_cards;
 mod tokens;
 #[cfg(test)]
 mod trying;
-#[cfg(test)]
-mod vocabularies;
