@@ -16,7 +16,10 @@ returns-in_err-ask_for_text-clause-did c =
 
 pub returns-clause-did : goal.returns-clause-did
 returns-clause-did c =
-    let d = c.typing_word.ensures.did in
-    (d.0, d.1, λ again t k s.
-    let m = seen c.args.registers.now c.args.image.now c.args.cells.now t k s in
-    typed_so (typing_number c.args.word) (typing_asks c.args.word) (typing_rows c.args.word) again m _ c.typing_word.result _ d.0 (c.in_ok-ask_for_text.ensures c.args.image.now c.args.cells.now t k s) (d.2 again (bare m) t k s))
+    let d = c.typing_word.ensures.did in (
+      d.0,
+      d.1,
+      λ again t k s.
+          let m = seen c.args.registers.now c.args.image.now c.args.cells.now t k s in
+          typed_so (typing_number c.args.word) (typing_asks c.args.word) (typing_rows c.args.word) again m _ c.typing_word.result _ d.0 (c.in_ok-ask_for_text.ensures c.args.image.now c.args.cells.now t k s) (d.2 again (bare m) t k s),
+    )
