@@ -13,8 +13,8 @@ use Rattle.entries.specs.Search.{Found, missing, broken, hit}
 use Rattle.entries.specs.Threads.{answered}
 use Rattle.entries.proofs.Walks.{first_above}
 use Rattle.numbers.specs.Text.{number_in}
-use Rattle.dictionary.specs.declared.registers.Dictionary.{Dictionary}
-use Rattle.dictionary.specs.Lent as lent
+use Rattle.dictionary.specs.Dict.{Dict}
+use Rattle.dictionary.specs.Lent.{dict_in}
 use Rattle.dictionary.specs.Search.{searched}
 use Rattle.definition.specs.declared.registers.Mark.{Mark}
 use Rattle.definition.specs.declared.ranged.Registers.{Registers}
@@ -27,7 +27,7 @@ use Rattle.definition.specs.Step.{word_of, acted}
 use Rattle.definition.proofs.Agreeing.{dp_bottom}
 use Rattle.steps.specs.Seats.{told_by}
 use Rattle.steps.specs.Does.{seen, IsRefused}
-use Rattle.seat_dictionary.proofs.Changing.{ReadOff, dict_seen}
+use Rattle.seat_dictionary.proofs.Changing.{here_seen}
 use Rattle.texts.specs.Texts.{word_in}
 use Rattle.finding.specs.declared.word.Word.{Word}
 use Rattle.finding.specs.declared.word.Word.TheVariants.{Immediate, Plain, Number}
@@ -55,22 +55,24 @@ inside_by p low n missing o q h = subst (EntryInside n) (sym q) tt
 inside_by p low n broken o q h = subst (EntryInside n) (sym q) tt
 inside_by p low n (hit x) o q h = let w = h x refl in let a = first_above low x in subst (EntryInside n) (sym q) (w.0, omega arith)
 
-module _ (r : Registers) (d : Dictionary) (i : List ℕ) (l : length i ≡ 65536) (ro : ReadOff r d) (name : List ℕ) (p : Place) (o : Result (Option ℕ) Fault) (q : o ≡ answered p (searched (lent.dict_of d i) name)) where
-  pub searched_seen : p ≡ told_by r.seat → (c t : List ℕ) (k : List Mark) (s : Meaning) → Answers (ask_found (seen r i c t k s) (searched (dict_of (seen r i c t k s)) name)) o (seen r i c t k s)
-  searched_seen e c t k s = found_by (seen r i c t k s) p (searched (dict_of (seen r i c t k s)) name) o (q ∙ ap (λ D. answered p (searched D name)) (sym (dict_seen r d i c t k s l ro))) e
+module _ (r : Registers) (i : List ℕ) (l : length i ≡ 65536) (name : List ℕ) (o : Result (Option ℕ) Fault) where
+  abbrev held : Dict
+  held = dict_in r.shared.ends r.shared.names r.seat.order i
 
-  pub found_inside : EntryInside r.shared.ends.dp o
-  found_inside =
-      let e : length (low_of d.ends.dp i) ≡ r.shared.ends.dp = ap (λ y. length (low_of y.dp i)) ro.ends ∙ length_low r.shared.ends.dp i (dp_bottom r) (omega (arith, r.top)) in
-      subst (λ n. EntryInside n o) e (inside_by p (low_of d.ends.dp i) (length (low_of d.ends.dp i)) (searched (lent.dict_of d i) name) o q (whole_found (lent.dict_of d i) name))
+  module _ (q : o ≡ answered (told_by r.seat) (searched held name)) where
+    pub searched_seen : (c t : List ℕ) (k : List Mark) (s : Meaning) → Answers (ask_found (seen r i c t k s) (searched (dict_of (seen r i c t k s)) name)) o (seen r i c t k s)
+    searched_seen c t k s =
+        let e = ap (λ h. dict_in (record { dp = r.shared.ends.dp; here = h }) r.shared.names r.seat.order i) (here_seen r i c t k s l) in
+        found_by (seen r i c t k s) (told_by r.seat) (searched (dict_of (seen r i c t k s)) name) o (q ∙ ap (λ D. answered (told_by r.seat) (searched D name)) (sym e)) refl
+
+    pub found_inside : EntryInside r.shared.ends.dp o
+    found_inside =
+        let e : length (low_of r.shared.ends.dp i) ≡ r.shared.ends.dp = length_low r.shared.ends.dp i (dp_bottom r) (omega (arith, r.top)) in
+        subst (λ n. EntryInside n o) e (inside_by (told_by r.seat) (low_of r.shared.ends.dp i) (length (low_of r.shared.ends.dp i)) (searched held name) o q (whole_found held name))
 
 -- an entry that is there lies in the dictionary
 pub entry_in_lem : (dp : ℕ) (o : Option ℕ) (x : ℕ) → o ≡ Some x → EntryInside dp (Ok o) → (258 ≤ x) × (x + 7 ≤ dp)
 entry_in_lem dp o x e h = let P : Option ℕ → Type 0 = λ y. EntryInside dp (Ok y) in subst P e h
-
--- the dictionary's registers are read off
-pub read_off : (r : Registers) (d : Dictionary) → d.ends ≡ r.shared.ends → d.names ≡ r.shared.names → d.order ≡ r.seat.order → ReadOff r d
-read_off r d a b c = record { ends = a; names = b; order = c }
 
 -- KINDS
 pub interpreting : Interpreting
