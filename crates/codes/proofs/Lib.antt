@@ -1,3 +1,4 @@
 pub mod Lifting
 pub mod Groups
 pub mod Rows
+pub mod Numbered

@@ -1,5 +1,5 @@
 -- What each code number asks for: 1 to 105 are the kernel words, 201 to 205 the other kinds.
-use Rattle.std.specs.Prelude.{◌≡◌, ℕ, Bool, false, ◌&&◌, ◌||◌, nat_le}
+use Rattle.std.specs.Prelude.{◌≡◌, ◌==◌, ℕ, suc, Bool, false, true, ◌&&◌, ◌||◌, nat_le, List, [], ◌∷◌}
 use Rattle.block_words.specs.Buffers.{block_number}
 use Rattle.compiling_words.specs.Numbers.{compiling_number}
 use Rattle.control_words.specs.Numbers.{control_number}
@@ -18,32 +18,50 @@ use Rattle.codes.specs.declared.code.SeldomWord.TheVariants.{Divide, Appending, 
 abbrev pub is_known : ℕ → Bool
 is_known n = (nat_le 1 n && nat_le n 105) || (nat_le 201 n && nat_le n 205)
 
+-- the number of a word's code; 0 where there is no word
+abbrev pub seldom_number : SeldomWord → ℕ
+seldom_number (Divide w) = divide_number w
+seldom_number (Appending w) = appending_number w
+seldom_number Allot = 46
+seldom_number (Typing w) = typing_number w
+seldom_number (Block w) = block_number w
+seldom_number Load = 58
+seldom_number ToBody = 61
+seldom_number Abort = 63
+seldom_number (Naming w) = naming_number w
+seldom_number (Compiling w) = compiling_number w
+seldom_number (Control w) = control_number w
+seldom_number Vocabulary = 204
+seldom_number Execute = 59
+seldom_number Unknown = 0
+
+abbrev pub number_of : Code → ℕ
+number_of (Stack w) = stack_number w
+number_of (Unary w) = unary_number w
+number_of (Binary w) = binary_number w
+number_of (Memory w) = memory_number w
+number_of (Leaving w) = leaving_number w
+number_of (Returns w) = returns_number w
+number_of (Inline w) = inline_number w
+number_of Colon = 201
+number_of Created = 202
+number_of Constant = 203
+number_of Does = 205
+number_of (Seldom w) = seldom_number w
+
+-- what the code of a word asks for, by its number
 abbrev pub SeldomCoded : ℕ → SeldomWord → Type 0
-SeldomCoded n (Divide w) = n ≡ divide_number w
-SeldomCoded n (Appending w) = n ≡ appending_number w
-SeldomCoded n Allot = n ≡ 46
-SeldomCoded n (Typing w) = n ≡ typing_number w
-SeldomCoded n (Block w) = n ≡ block_number w
-SeldomCoded n Load = n ≡ 58
-SeldomCoded n ToBody = n ≡ 61
-SeldomCoded n Abort = n ≡ 63
-SeldomCoded n (Naming w) = n ≡ naming_number w
-SeldomCoded n (Compiling w) = n ≡ compiling_number w
-SeldomCoded n (Control w) = n ≡ control_number w
-SeldomCoded n Vocabulary = n ≡ 204
-SeldomCoded n Execute = n ≡ 59
 SeldomCoded n Unknown = is_known n ≡ false
+SeldomCoded n w = n ≡ seldom_number w
 
 abbrev pub Coded : ℕ → Code → Type 0
-Coded n (Stack w) = n ≡ stack_number w
-Coded n (Unary w) = n ≡ unary_number w
-Coded n (Binary w) = n ≡ binary_number w
-Coded n (Memory w) = n ≡ memory_number w
-Coded n (Leaving w) = n ≡ leaving_number w
-Coded n (Returns w) = n ≡ returns_number w
-Coded n (Inline w) = n ≡ inline_number w
-Coded n Colon = n ≡ 201
-Coded n Created = n ≡ 202
-Coded n Constant = n ≡ 203
-Coded n Does = n ≡ 205
 Coded n (Seldom w) = SeldomCoded n w
+Coded n c = n ≡ number_of c
+
+-- the rows stand in the order of their numbers
+abbrev pub rows_from : ℕ → List Code → Bool
+rows_from n [] = true
+rows_from n (c ∷ l) = number_of c == n && rows_from (suc n) l
+
+abbrev pub Rows : List Code → Type 0
+Rows l = rows_from 1 l ≡ true
