@@ -1,30 +1,19 @@
 -- The ends of executing a token.
-use Rattle.std.proofs.Common.{◌≡◌, ℕ, true, false, List, length, Ok, Err, sym, refl, ap, ◌∙◌, subst, arith}
+use Rattle.std.proofs.Common.{◌≡◌, ℕ, List, Ok, Err, sym, refl, ap, ◌∙◌, subst}
 use Rattle.fault.specs.declared.Fault.{Fault}
-use Rattle.fault.specs.declared.Reason.TheVariants.{BadToken}
-use Rattle.fault.specs.Numbers.{fault_of}
-use Rattle.store.specs.Meaning.{Meaning}
 use Rattle.stacks.specs.Stack.{stack_of}
-use Rattle.image.specs.Cells.{cell_at}
-use Rattle.image.proofs.Laws.{cell_low}
-use Rattle.definition.specs.declared.registers.Mark.{Mark}
 use Rattle.definition.specs.declared.registers.Seat.{Seat}
 use Rattle.definition.specs.declared.registers.Shared.{Shared}
 use Rattle.definition.specs.declared.ranged.Registers.{Registers}
 use Rattle.definition.specs.Machine.{Machine, with_cells}
 use Rattle.definition.specs.Asked.{Asked, After}
 use Rattle.definition.specs.View.{lent, view_of}
-use Rattle.definition.specs.Words.{execute_within, execute}
 use Rattle.steps.specs.declared.progress.Progress.{Progress}
 use Rattle.steps.specs.declared.progress.Progress.TheVariants.{Went, Full, Finished}
-use Rattle.steps.specs.Inside.{inside}
-use Rattle.steps.specs.Seats.{told_by, with_cell_depth}
-use Rattle.steps.specs.Does.{seen, IsRefused, Did}
-use Rattle.steps.proofs.Dictionary.{inside_tells, inside_is}
-use Rattle.codes.specs.Performs.{coded, Memory, memory, held, Acts, FullKeeps}
-use Rattle.codes.proofs.Lifting.{quiet}
-use Rattle.executing.specs.Tokens.{Released, Through}
-use Rattle.executing.proofs.Through.{outside, within}
+use Rattle.steps.specs.Seats.{with_cell_depth}
+use Rattle.steps.specs.Does.{IsRefused}
+use Rattle.codes.specs.Performs.{Memory, held, Acts, FullKeeps}
+use Rattle.executing.specs.Tokens.{Released}
 
 -- what comes to the same is done by the same
 module _ (f g : Machine → Asked After) (r r1 : Registers) (l : Memory) (p : f (held r l) ≡ g (held r1 l)) (r' : Registers) (l' : Memory) where
@@ -39,20 +28,6 @@ module _ (f g : Machine → Asked After) (r r1 : Registers) (l : Memory) (p : f 
   -- with nothing changed
   pub acts_full : (r2 : Registers) → held r2 l' ≡ held r l → Acts g r1 l (Ok Full) r' l' → Acts f r l (Ok Full) r2 l'
   acts_full r2 q a = record { new = a.new; output = a.output; did = (a.did.0, p ∙ a.did.1, a.did.2, q, a.did.4) }
-
-module _ (r r1 : Registers) (i c e : List ℕ) (k : List Mark) (s : Meaning) (li : length i ≡ 65536) (t u : ℕ) (h : Through t r i c (Ok u) r1) where
-  pub not_there : (f : Fault) (out : List ℕ) (n : ℕ) → inside u 2 r1.shared.ends.dp ≡ false → f ≡ fault_of BadToken (told_by r1.seat) → Acts (execute t) r (memory i c e k out n s) (Err f) r1 (memory i c e k out n s)
-  not_there f out n g p =
-      let m = seen r1 i c e k s in
-      quiet (execute t) r r1 i c e i c e k k s s out n (Err f)
-      (subst (λ (y : Asked After). Did y (Err f) m) (sym (h.1 e k s ∙ outside u m (inside_is r1 i li c e k s u 2 false g))) (p, refl))
-
-  pub leads_to : (number : ℕ) → inside u 2 r1.shared.ends.dp ≡ true → number ≡ cell_at i u → execute t (seen r i c e k s) ≡ coded (execute_within (length (seen r1 i c e k s).stacks.cells)) number u (seen r1 i c e k s)
-  leads_to number g p =
-      let m = seen r1 i c e k s in
-      let b = inside_tells u 2 r1.shared.ends.dp g in
-      h.1 e k s ∙ within u m (inside_is r1 i li c e k s u 2 true g)
-      ∙ ap (λ y. coded (execute_within (length m.stacks.cells)) y u m) (cell_low r1.shared.ends.dp i u (omega (arith, b.0)) (omega (arith, b.1)) ∙ sym p)
 
 -- the cells that were released come back
 pub restored : (r r1 r' r2 : Registers) (l l' : Memory) → Released r r1 → held r' l' ≡ held r1 l → l'.cells ≡ l.cells → r2.shared ≡ r'.shared → r2.seat ≡ with_cell_depth r.seat.depths.cells r'.seat → held r2 l' ≡ held r l

@@ -9,7 +9,6 @@ use definition::ranged::Registers;
 use definition::registers::Mark;
 use fault::Fault;
 use steps::cells::{CellStack, Data};
-use steps::inside::ask_inside;
 use steps::progress::Progress;
 use store::Store;
 use typing_words::output::Output;
@@ -30,11 +29,17 @@ pub fn execute<S: Store>(
     ensures same_reference { output.new.bytes.ghost_name ≡ output.old.bytes.ghost_name }
 {
     let depth = registers.seat.depths.cells;
-    let token = through_execute(registers, image, cells, token)?;
-    ask_inside(registers, token, 2)?;
-    let number = image::fetch(image, usize::from(token));
+    let found = through_execute(registers, image, cells, token)?;
     let progress = perform(
-        registers, number, token, image, cells, returns, marks, output, store,
+        registers,
+        found.code,
+        found.token,
+        image,
+        cells,
+        returns,
+        marks,
+        output,
+        store,
     )?;
     if let Progress::Full = progress {
         Data::set_depth(registers, depth);

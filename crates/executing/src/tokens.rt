@@ -1,20 +1,37 @@
 // Tokens in the dictionary, and the way through EXECUTE.
-ghost use Rattle.std.specs.Prelude.{◌≡◌, ◌+◌, ◌<◌, ◌≤◌};
-ghost use Rattle.executing.specs.Tokens.{Pops, Released, Through, is_execute};
+ghost use Rattle.std.specs.Prelude.{◌≡◌, ◌≢◌, true, false};
+ghost use Rattle.executing.specs.Tokens.{IsFound, Pops, Released, Through};
 
 use definition::ranged::Registers;
 use fault::Fault;
 use steps::cells::{self, Data};
-use steps::inside::is_inside;
+use steps::inside::ask_inside;
 
 // The code of EXECUTE.
 const EXECUTE: u16 = 59;
 
-// Is it the token of EXECUTE?
-fn executes(registers: &Registers, image: &[u8; 65536], token: u16) -> bool
-    ensures { result ≡ is_execute registers.now.shared.ends.dp image.now token }
+// A token in the dictionary, and the code that lies there.
+#[derive(Clone, Copy)]
+pub(crate) struct Found {
+    pub(crate) token: u16,
+    pub(crate) code: u16,
+}
+
+impl Found {
+    fn is_execute(self) -> bool
+        ensures yes { result ≡ true → self.code ≡ 59 }
+        ensures no { result ≡ false → self.code ≢ 59 }
+    {
+        self.code == EXECUTE
+    }
+}
+
+fn found_at(registers: &Registers, image: &[u8; 65536], token: u16) -> Result<Found, Fault>
+    ensures { IsFound registers.now image.now token result }
 {
-    is_inside(registers, token, 2) && image::fetch(image, usize::from(token)) == EXECUTE
+    ask_inside(registers, token, 2)?;
+    let code = image::fetch(image, usize::from(token));
+    Ok(Found { token, code })
 }
 
 // Takes the top cell off.
@@ -33,13 +50,14 @@ pub(crate) fn through_execute(
     image: &[u8; 65536],
     cells: &[u16; 128],
     token: u16,
-) -> Result<u16, Fault>
+) -> Result<Found, Fault>
     ensures through { Through token registers.old image.now cells.now result registers.new }
     ensures released { Released registers.old registers.new }
 {
-    let mut token = token;
-    'execute: while executes(registers, image, token) {
-        token = pop(registers, cells)?;
+    let mut found = found_at(registers, image, token)?;
+    'execute: while found.is_execute() {
+        let next = pop(registers, cells)?;
+        found = found_at(registers, image, next)?;
     }
-    Ok(token)
+    Ok(found)
 }
