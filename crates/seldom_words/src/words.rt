@@ -33,6 +33,7 @@ fn abort(registers: &Registers) -> Fault
 }
 
 // Does what the word of this code and token does. EXECUTE is gone through before: its arm is never taken.
+#[inline(never)]
 pub fn seldom_word<S: Store>(
     registers: &mut Registers,
     word: SeldomWord,
