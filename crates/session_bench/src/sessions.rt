@@ -1,6 +1,6 @@
 // Sessions: what is done after boot with a card of 16 blocks, and what must come of it.
-use super::bench::Bench;
-use super::end::End;
+use line_bench::bench::Bench;
+use line_bench::end::End;
 use std::alloc::{AllocError, Global};
 use store::{MemoryCard, Store};
 use switched_card::Switched;

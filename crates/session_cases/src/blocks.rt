@@ -1,6 +1,6 @@
 // Blocks: the buffer, and text that is loaded.
 use super::trying::{rows_hold, sessions_hold};
-use session_bench::end::End::{BlockFault, Fault, Finished};
+use line_bench::end::End::{BlockFault, Fault, Finished};
 use session_bench::sessions::Move::{Locks, Types};
 use session_bench::sessions::{Row, Session};
 

@@ -1,6 +1,6 @@
 // Words that compile: immediate words, literals, and DOES>.
 use super::trying::{rows_hold, sessions_hold};
-use session_bench::end::End::{Fault, Finished};
+use line_bench::end::End::{Fault, Finished};
 use session_bench::sessions::Move::Types;
 use session_bench::sessions::{Row, Session};
 

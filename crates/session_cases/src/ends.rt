@@ -1,6 +1,6 @@
 // How a line ends: what it leaves to the next, what a fault leaves, and stops.
 use super::trying::{rows_hold, sessions_hold};
-use session_bench::end::End::{BlockFault, Fault, Finished, Stopped};
+use line_bench::end::End::{BlockFault, Fault, Finished, Stopped};
 use session_bench::sessions::Move::{Gives, Runs, Types};
 use session_bench::sessions::{Row, Session};
 

@@ -1,6 +1,6 @@
 // Loops, and the return cells that they keep.
 use super::trying::rows_hold;
-use session_bench::end::End::{Fault, Finished};
+use line_bench::end::End::{Fault, Finished};
 use session_bench::sessions::Row;
 
 static LOOPS: &[Row] = &[

@@ -1,6 +1,6 @@
 // Vocabularies, the search order, and FORGET.
 use super::trying::{rows_hold, sessions_hold};
-use session_bench::end::End::{Fault, Finished};
+use line_bench::end::End::{Fault, Finished};
 use session_bench::sessions::Move::{Pokes, Types};
 use session_bench::sessions::{Row, Session};
 

@@ -1,6 +1,6 @@
 // Words and numbers of the text, comments, and what is typed.
 use super::trying::rows_hold;
-use session_bench::end::End::{Fault, Finished};
+use line_bench::end::End::{Fault, Finished};
 use session_bench::sessions::Row;
 
 // The lines of the rule book.

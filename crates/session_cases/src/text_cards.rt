@@ -1,5 +1,5 @@
 // Text that is loaded from a card of lines.
-use session_bench::end::End::{Fault, Finished};
+use line_bench::end::End::{Fault, Finished};
 use session_bench::sessions::Move::Types;
 use session_bench::sessions::failing_on_text;
 use std::test::Fail;

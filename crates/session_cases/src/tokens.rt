@@ -1,6 +1,6 @@
 // Numbers executed as tokens: what lies there, in an open entry or in a closed one.
 use super::trying::rows_hold;
-use session_bench::end::End::{Fault, Finished};
+use line_bench::end::End::{Fault, Finished};
 use session_bench::sessions::Row;
 
 static TOKENS: &[Row] = &[
