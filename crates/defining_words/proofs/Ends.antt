@@ -30,7 +30,8 @@ use Rattle.seat_dictionary.proofs.Changing.{here_seen}
 use Rattle.asking.specs.Asking.{Took, StateAnswers}
 use Rattle.asking.proofs.Words.{acted}
 use Rattle.appending.specs.Spaces.{in_space, InSpace}
-use Rattle.defining_words.specs.Defining.{compiling, with_here}
+use Rattle.defining_words.specs.Defining.{compiling}
+use Rattle.steps.specs.DataSpace.{with_here}
 
 -- a question that refuses, whatever was to follow
 asked_no : {A : Type 0} (m : Machine) (why : Reason) (b : Bool) (x : Asked A) (e : Fault) → b ≡ false → e ≡ fault_of why (told m) → IsRefused (ask m why b >> x) e m

@@ -3,7 +3,6 @@ use Rattle.std.specs.Prelude.{ℕ, true, List, Ok, Err, Result}
 use Rattle.fault.specs.declared.Fault.{Fault}
 use Rattle.definition.specs.declared.ranged.Registers.{Registers}
 use Rattle.definition.specs.declared.registers.Seat.{Seat}
-use Rattle.definition.specs.declared.registers.Shared.{Shared}
 use Rattle.definition.specs.Kernel.{Asks, a_name}
 use Rattle.texts.specs.declared.name.Name.{Name}
 use Rattle.texts.specs.Names.{name_of}
@@ -17,7 +16,3 @@ NamedFor qs r i (Err e) r' = NotReady a_name qs r i e r'
 -- the seat compiles
 abbrev pub compiling : Seat → Seat
 compiling t = record { order = t.order; flow = record { compiling = true; ip = t.flow.ip }; depths = t.depths; source = t.source; loads = t.loads }
-
--- HERE is h
-abbrev pub with_here : ℕ → Shared → Shared
-with_here h s = record { ends = record { dp = s.ends.dp; here = h }; names = s.names; buffer = s.buffer }

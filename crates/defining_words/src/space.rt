@@ -1,15 +1,16 @@
-// Space that is asked for before anything is written, and data space that grows by a cell.
+// Dictionary space that is asked for before anything is written, and data space that grows by a cell.
 ghost use Rattle.std.specs.Prelude.{◌≡◌, ◌+◌, ◌<◌, ◌≤◌, take};
-ghost use Rattle.defining_words.specs.Defining.{with_here};
 ghost use Rattle.definition.specs.Define.{entry_size};
-ghost use Rattle.fault.specs.declared.Reason.TheVariants.{DataFull, DictionaryFull};
+ghost use Rattle.fault.specs.declared.Reason.TheVariants.{DictionaryFull};
 ghost use Rattle.image.specs.Cells.{cell};
 ghost use Rattle.image.specs.Writes.{overwritten};
+ghost use Rattle.steps.specs.DataSpace.{with_here};
 ghost use Rattle.steps.specs.Seats.{IsAnswered};
 ghost use Rattle.texts.specs.Names.{name_of};
 
 use definition::ranged::Registers;
 use fault::{Fault, Reason};
+use steps::data_space::move_here;
 use steps::faults::ask;
 use texts::name::Name;
 
@@ -25,14 +26,6 @@ pub(crate) fn ask_entry_space(registers: &Registers, name: &Name) -> Result<(), 
     ask(registers, end <= 32768, Reason::DictionaryFull)
 }
 
-// Is there data space for a cell more?
-pub(crate) fn ask_cell_space(registers: &Registers) -> Result<(), Fault>
-    ensures { IsAnswered result (λ _. registers.now.shared.ends.here + 2 ≤ 65535) (65535 < registers.now.shared.ends.here + 2) DataFull registers.now.seat }
-{
-    let fits = registers.shared.ends.here.checked_add(2).is_some();
-    ask(registers, fits, Reason::DataFull)
-}
-
 // Data space grows by a cell of 0.
 pub(crate) fn grow_by_cell(registers: &mut Registers, image: &mut [u8; 65536])
     requires { registers.old.shared.ends.here + 2 ≤ 65535 }
@@ -40,7 +33,6 @@ pub(crate) fn grow_by_cell(registers: &mut Registers, image: &mut [u8; 65536])
     ensures seat { registers.new.seat ≡ registers.old.seat }
     ensures written { image.new ≡ overwritten registers.old.shared.ends.here (cell 0) image.old }
 {
-    let here = registers.shared.ends.here;
-    image::store(image, usize::from(here), 0);
-    registers.shared.ends.here = here + 2;
+    image::store(image, usize::from(registers.shared.ends.here), 0);
+    move_here(registers, 2);
 }

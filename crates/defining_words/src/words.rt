@@ -5,10 +5,11 @@ ghost use Rattle.steps.specs.Does.{FromText};
 
 use super::making::{Made, begin_colon, define, define_vocabulary};
 use super::names::{colon_name, new_name};
-use super::space::{ask_cell_space, ask_entry_space, grow_by_cell};
+use super::space::{ask_entry_space, grow_by_cell};
 use definition::ranged::Registers;
 use fault::Fault;
 use steps::cells::{self, Data};
+use steps::data_space::ask_data_space;
 
 // CREATE
 pub fn create(registers: &mut Registers, image: &mut [u8; 65536]) -> Result<(), Fault>
@@ -26,7 +27,7 @@ pub fn variable(registers: &mut Registers, image: &mut [u8; 65536]) -> Result<()
 {
     let name = new_name(registers, image)?;
     ask_entry_space(registers, &name)?;
-    ask_cell_space(registers)?;
+    ask_data_space(registers, 2)?;
     define(registers, image, &name, Made::Created)?;
     grow_by_cell(registers, image);
     Ok(())

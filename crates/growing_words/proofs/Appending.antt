@@ -1,5 +1,5 @@
 -- The ends of the words that append to data space.
-use Rattle.std.proofs.Common.{◌≡◌, ℕ, ◌+◌, ◌-◌, ◌<◌, ◌≤◌, true, false, leb, List, ◌++◌, length, get_or, take, drop, Ok, Err, sym, refl, ap, ◌∙◌, arith, length-take}
+use Rattle.std.proofs.Common.{subst, ◌≡◌, ℕ, ◌+◌, ◌-◌, ◌<◌, ◌≤◌, true, false, leb, List, ◌++◌, length, get_or, take, drop, Ok, Err, sym, refl, ap, ◌∙◌, arith, length-take}
 use Rattle.fault.specs.declared.Fault.{Fault}
 use Rattle.fault.specs.declared.Reason.TheVariants.{StackUnderflow, DataFull}
 use Rattle.fault.specs.Numbers.{fault_of}
@@ -23,15 +23,17 @@ use Rattle.space_words.proofs.Written.{built, here_is}
 use Rattle.steps.specs.Seats.{told_by, with_cell_depth}
 use Rattle.steps.specs.Does.{seen, acts, OnSpace}
 use Rattle.steps.proofs.Exits.{yes, no, refused_at, has_cells_lem, lacks_cells}
-use Rattle.growing_words.specs.Numbers.{with_here}
+use Rattle.steps.specs.DataSpace.{with_here}
+use Rattle.growing_words.specs.declared.words.AppendingWord.{AppendingWord}
+use Rattle.growing_words.specs.Numbers.{appending_number, size_of}
 
-pub comma_acts : Acts 47 (Kernel.appends 2)
+acts_in_size : (w : AppendingWord) → Acts (appending_number w) (Kernel.appends (size_of w))
 unfolding perform
-comma_acts again a m = refl
+acts_in_size AppendingWord.Comma again a m = refl
+acts_in_size AppendingWord.CComma again a m = refl
 
-pub comma_byte_acts : Acts 48 (Kernel.appends 1)
-unfolding perform
-comma_byte_acts again a m = refl
+pub appending_acts : (w : AppendingWord) (n : ℕ) → n ≡ size_of w → Acts (appending_number w) (Kernel.appends n)
+appending_acts w n e = subst (λ y. Acts (appending_number w) (Kernel.appends y)) (sym e) (acts_in_size w)
 
 appends_short : (n : ℕ) (m : Machine) → has_cells 1 m ≡ false → do_space (Kernel.appends n) m ≡ refused StackUnderflow m
 appends_short n m h = rw h

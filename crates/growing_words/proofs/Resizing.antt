@@ -26,7 +26,7 @@ use Rattle.steps.specs.Seats.{told_by, with_cell_depth}
 use Rattle.steps.specs.Does.{seen, acts, OnSpace}
 use Rattle.steps.proofs.Exits.{refused_at, has_cells_lem, lacks_cells}
 use Rattle.space_words.proofs.Written.{built, here_is}
-use Rattle.growing_words.specs.Numbers.{with_here}
+use Rattle.steps.specs.DataSpace.{with_here}
 use Rattle.growing_words.specs.Allotting.{moved_by, lowest_of, allowed}
 use Rattle.growing_words.proofs.Appending.{deep, end}
 

@@ -2,10 +2,10 @@
 ghost use Rattle.std.specs.Prelude.{◌≡◌, ◌+◌, ◌-◌, ◌<◌, ◌≤◌, max, true, false, length, take, replicate};
 ghost use Rattle.fault.specs.declared.Reason.TheVariants.{DataFull};
 ghost use Rattle.growing_words.specs.Allotting.{allowed, lowest_of, moved_by};
-ghost use Rattle.growing_words.specs.Numbers.{with_here};
 ghost use Rattle.image.specs.Cells.{at, cell_at};
 ghost use Rattle.image.specs.Views.{low_of};
 ghost use Rattle.image.specs.Writes.{overwritten};
+ghost use Rattle.steps.specs.DataSpace.{with_here};
 ghost use Rattle.steps.specs.Does.{OnSpace};
 ghost use Rattle.steps.specs.Seats.{IsAnswered};
 

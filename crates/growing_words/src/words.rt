@@ -1,6 +1,22 @@
 // The words that append to data space.
-#[derive(Clone, Copy, PartialEq, Eq, Debug)]
+ghost use Rattle.std.specs.Prelude.{◌≡◌, ◌≤◌};
+ghost use Rattle.growing_words.specs.Numbers.{size_of};
+
+#[derive(Clone, Copy)]
 pub enum AppendingWord {
     Comma,
     CComma,
+}
+
+impl AppendingWord {
+    // How many bytes of a cell it appends, the low ones first.
+    pub(crate) fn size(self) -> u16
+        ensures value { result ≡ size_of self }
+        ensures within { result ≤ 2 }
+    {
+        match self {
+            AppendingWord::Comma => 2,
+            AppendingWord::CComma => 1,
+        }
+    }
 }

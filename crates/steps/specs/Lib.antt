@@ -1,3 +1,4 @@
+pub mod DataSpace
 pub mod Inside
 pub mod Seats
 pub mod Does

@@ -4,6 +4,7 @@
 
 pub mod base;
 pub mod cells;
+pub mod data_space;
 pub mod faults;
 pub mod inside;
 pub mod pointer;
