@@ -65,7 +65,7 @@ forgotten w D = record {
 -- Before the first write: are the links to be walked in order?
 
 -- a vocabulary link: its heads at 258 or above, below the one before (at first DP), and whole below DP
-abbrev link_in_order : ℕ → ℕ → ℕ → Bool
+abbrev pub link_in_order : ℕ → ℕ → ℕ → Bool
 link_in_order dp before k = nat_le 266 k && nat_lt k before && nat_le (k + 2) dp
 
 unfoldable pub chain_in_order : ℕ → List ℕ → ℕ → ℕ → ℕ → Bool

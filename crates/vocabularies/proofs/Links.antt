@@ -10,8 +10,8 @@ use Rattle.entries.specs.Search.{missing, broken, hit}
 use Rattle.entries.specs.Threads.{answered}
 use Rattle.dictionary.specs.Dict.{Dict, with_context}
 use Rattle.dictionary.specs.Lent.{Did}
-use Rattle.dictionary.specs.Trim.{chain, chain_in_order, is_chain, on_chain, member}
-use Rattle.vocabularies.specs.Seeks.{link_in_order, vocabulary_linked, chain_asked, stays, sought}
+use Rattle.dictionary.specs.Trim.{chain, chain_in_order, is_chain, link_in_order, on_chain, member}
+use Rattle.vocabularies.specs.Seeks.{vocabulary_linked, chain_asked, stays, sought}
 
 pub link_parts : (dp before k : ℕ) → link_in_order dp before k ≡ true → (266 ≤ k) × (k < before) × (k + 2 ≤ dp)
 link_parts dp before k h =

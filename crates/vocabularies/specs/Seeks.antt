@@ -1,5 +1,5 @@
 -- Walking the vocabulary chain, and searching a vocabulary of it first.
-use Rattle.std.specs.Prelude.{ℕ, ◌+◌, Bool, cond, ◌&&◌, length, Ok, Err, Result, ◌==◌, nat_le, nat_lt}
+use Rattle.std.specs.Prelude.{ℕ, ◌+◌, Bool, cond, ◌&&◌, length, Ok, Err, Result, ◌==◌, nat_le}
 use Rattle.fault.specs.declared.Fault.{Fault}
 use Rattle.fault.specs.declared.Place.{Place}
 use Rattle.fault.specs.declared.Reason.TheVariants.{BrokenLink, BadToken}
@@ -7,11 +7,7 @@ use Rattle.fault.specs.Numbers.{fault_of}
 use Rattle.entries.specs.Search.{Found, missing, broken, hit}
 use Rattle.dictionary.specs.Dict.{Dict, with_context}
 use Rattle.dictionary.specs.Kept.{kept_end}
-use Rattle.dictionary.specs.Trim.{is_chain, on_chain}
-
--- a vocabulary link in order: its heads at 258 or above, below the one before (at first DP), whole below DP
-abbrev pub link_in_order : ℕ → ℕ → ℕ → Bool
-link_in_order dp before k = nat_le 266 k && nat_lt k before && nat_le (k + 2) dp
+use Rattle.dictionary.specs.Trim.{is_chain, link_in_order, on_chain}
 
 -- what a vocabulary link names, where `before` holds it: a link in order, or at the chain's end nothing
 abbrev pub vocabulary_linked : ℕ → ℕ → ℕ → Found
