@@ -1,7 +1,9 @@
-// Sessions on the dictionary that boot leaves, each with what it must leave. They stand here because a crate with tests is proved
+// A search, boot, and sessions on the dictionary that boot leaves, each with what it must leave. They stand here because a crate with tests is proved
 // twice.
 #![tactic(auto)]
 
+#[cfg(test)]
+mod booting;
 #[cfg(test)]
 mod broken;
 #[cfg(test)]
@@ -10,5 +12,7 @@ mod forgetting;
 mod growing;
 #[cfg(test)]
 mod moves;
+#[cfg(test)]
+mod searching;
 #[cfg(test)]
 mod sessions;
