@@ -12,7 +12,7 @@ use steps::cells::{self, Data};
 use steps::faults::ask;
 use store::Store;
 
-#[derive(Clone, Copy, PartialEq, Eq, Debug)]
+#[derive(Clone, Copy)]
 pub enum BlockWord {
     Block,
     Update,

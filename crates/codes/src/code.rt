@@ -9,7 +9,7 @@ use naming_words::words::NamingWord;
 use space_words::words::MemoryWord;
 use typing_words::words::TypingWord;
 
-#[derive(Clone, Copy, PartialEq, Eq, Debug)]
+#[derive(Clone, Copy)]
 pub enum Code {
     Stack(StackWord),
     Unary(UnaryWord),
@@ -25,7 +25,7 @@ pub enum Code {
     Seldom(SeldomWord),
 }
 
-#[derive(Clone, Copy, PartialEq, Eq, Debug)]
+#[derive(Clone, Copy)]
 pub enum SeldomWord {
     Divide(DivideWord),
     Appending(AppendingWord),

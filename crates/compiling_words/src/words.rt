@@ -13,7 +13,7 @@ use asking::{ask_none_open, ask_open};
 use definition::ranged::Registers;
 use fault::Fault;
 
-#[derive(Clone, Copy, PartialEq, Eq, Debug)]
+#[derive(Clone, Copy)]
 pub enum CompilingWord {
     Semicolon,
     Definitions,

@@ -10,7 +10,7 @@ use definition::ranged::Registers;
 use definition::registers::Mark;
 use fault::Fault;
 
-#[derive(Clone, Copy, PartialEq, Eq, Debug)]
+#[derive(Clone, Copy)]
 pub enum ControlWord {
     If,
     Else,

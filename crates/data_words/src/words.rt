@@ -1,7 +1,7 @@
 // The words on data cells, by what they take and leave.
 
 // Words that put a register or an address on the stack.
-#[derive(Clone, Copy, PartialEq, Eq, Debug)]
+#[derive(Clone, Copy)]
 pub enum LeavingWord {
     Depth,
     Base,
@@ -10,7 +10,7 @@ pub enum LeavingWord {
 }
 
 // Words that copy, drop or move cells.
-#[derive(Clone, Copy, PartialEq, Eq, Debug)]
+#[derive(Clone, Copy)]
 pub enum StackWord {
     Dup,
     Drop,
@@ -23,7 +23,7 @@ pub enum StackWord {
 }
 
 // Words that make one cell of one.
-#[derive(Clone, Copy, PartialEq, Eq, Debug)]
+#[derive(Clone, Copy)]
 pub enum UnaryWord {
     OnePlus,
     OneMinus,
@@ -36,7 +36,7 @@ pub enum UnaryWord {
 }
 
 // Words that make one cell of two.
-#[derive(Clone, Copy, PartialEq, Eq, Debug)]
+#[derive(Clone, Copy)]
 pub enum BinaryWord {
     Plus,
     Minus,
@@ -53,7 +53,7 @@ pub enum BinaryWord {
 }
 
 // Words that divide.
-#[derive(Clone, Copy, PartialEq, Eq, Debug)]
+#[derive(Clone, Copy)]
 pub enum DivideWord {
     Slash,
     Mod,

@@ -4,7 +4,7 @@ ghost use Rattle.definition.specs.Ranges.{load_at, settled};
 
 use super::registers::{Seat, Shared};
 
-#[derive(Clone, Copy, PartialEq, Eq, Debug)]
+#[derive(Clone, Copy, PartialEq, Eq)]
 pub struct Registers {
     pub shared: Shared,
     pub seat: Seat,

@@ -9,7 +9,7 @@ use entries::Entries;
 pub const DATA_SPACE: u16 = 34048;
 
 // Where the dictionary ends (DP) and where data space ends (HERE).
-#[derive(Clone, Copy, Debug, PartialEq, Eq)]
+#[derive(Clone, Copy, PartialEq, Eq)]
 pub struct Ends {
     pub dp: u16,
     pub here: u16,
@@ -17,7 +17,7 @@ pub struct Ends {
 
 // The newest entry, the youngest vocabulary link (VOC-LINK), and the entry that `:` began, or 0, which is no entry's address: registers
 // are plain numbers.
-#[derive(Clone, Copy, Debug, PartialEq, Eq)]
+#[derive(Clone, Copy, PartialEq, Eq)]
 pub struct Names {
     pub newest: u16,
     pub voclink: u16,
@@ -38,7 +38,7 @@ impl Names {
 }
 
 // CONTEXT and CURRENT, each by the address of the vocabulary's first head.
-#[derive(Clone, Copy, Debug, PartialEq, Eq)]
+#[derive(Clone, Copy, PartialEq, Eq)]
 pub struct SearchOrder {
     pub context: u16,
     pub current: u16,
@@ -54,7 +54,7 @@ impl SearchOrder {
 }
 
 // All of them. CONTEXT and CURRENT lie below DP, and below the open entry's beginning, to which DP may go back.
-#[derive(Clone, Copy, Debug, PartialEq, Eq)]
+#[derive(Clone, Copy)]
 pub struct Dictionary {
     pub ends: Ends,
     pub names: Names,

@@ -1,7 +1,7 @@
 // The words that only a definition holds.
 
 // Words on the return stack.
-#[derive(Clone, Copy, PartialEq, Eq, Debug)]
+#[derive(Clone, Copy)]
 pub enum ReturnsWord {
     Exit,
     ToR,
@@ -13,7 +13,7 @@ pub enum ReturnsWord {
 }
 
 // Words that read the cell behind their token.
-#[derive(Clone, Copy, PartialEq, Eq, Debug)]
+#[derive(Clone, Copy)]
 pub enum InlineWord {
     Literal,
     Branch,

@@ -6,7 +6,7 @@ ghost use Rattle.definition.specs.Boot.{kernel_token};
 ghost use Rattle.kernel_tokens.specs.Numbers.{compiled_number};
 
 // EXIT (LIT) BRANCH ?BRANCH (DO) (LOOP) (+LOOP) (;CODE) (.")
-#[derive(Clone, Copy, PartialEq, Eq, Debug)]
+#[derive(Clone, Copy)]
 pub enum CompiledWord {
     Exit,
     Literal,

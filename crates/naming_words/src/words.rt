@@ -1,5 +1,5 @@
 // The words that take a name.
-#[derive(Clone, Copy, PartialEq, Eq, Debug)]
+#[derive(Clone, Copy)]
 pub enum NamingWord {
     Tick,
     Paren,

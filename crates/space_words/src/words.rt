@@ -1,5 +1,5 @@
 // The words that fetch and store in data space.
-#[derive(Clone, Copy, PartialEq, Eq, Debug)]
+#[derive(Clone, Copy)]
 pub enum MemoryWord {
     Fetch,
     Store,

@@ -19,7 +19,7 @@ use steps::faults::ask;
 use steps::inside::{ask_inside, is_inside};
 
 // Words whose token pushes a cell of their entry.
-#[derive(Clone, Copy, PartialEq, Eq, Debug)]
+#[derive(Clone, Copy)]
 pub enum PushingWord {
     Created,
     Constant,

@@ -1,5 +1,5 @@
 // The words that type; `Text` is (."), which types the text behind its token.
-#[derive(Clone, Copy, PartialEq, Eq, Debug)]
+#[derive(Clone, Copy)]
 pub enum TypingWord {
     Dot,
     UDot,
