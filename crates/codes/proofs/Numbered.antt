@@ -1,5 +1,5 @@
 -- The row of a number asks for what its code does.
-use Rattle.std.proofs.Common.{◌≡◌, ℕ, zero, suc, ◌+◌, ◌-◌, ◌<◌, ◌≤◌, eqb, true, List, [], ◌∷◌, length, slice_index_or, refl, subst, arith}
+use Rattle.std.proofs.Common.{◌≡◌, ℕ, zero, suc, ◌+◌, ◌<◌, eqb, true, List, [], ◌∷◌, length, slice_index_or, refl, subst, arith}
 use Rattle.std.proofs.lemmas.Bool as Tests
 use Rattle.codes.specs.declared.code.Code.{Code}
 use Rattle.codes.specs.declared.code.Code.TheVariants.{Stack, Unary, Binary, Memory, Leaving, Returns, Inline, Colon, Created, Constant, Does, Seldom}
@@ -47,5 +47,5 @@ row_coded n (suc k) m (c ∷ l) other p h g =
     let b = Tests.and_parts (eqb (number_of c) n) (rows_from (suc n) l) h in
     row_coded (suc n) k m l other (omega (arith, p)) b.1 (omega (arith, g))
 
-pub row_at : (n place : ℕ) (l : List Code) (other : Code) → 1 ≤ n → n ≤ length l → place ≡ n → rows_from 1 l ≡ true → Coded n (slice_index_or l (place - 1) other)
-row_at n place l other a b p h = row_coded 1 (place - 1) n l other (omega (arith, a, p)) h (omega (arith, a, b, p))
+pub row_at : (n place : ℕ) (l : List Code) (other : Code) → n < length l → place ≡ n → rows_from 0 l ≡ true → Coded n (slice_index_or l place other)
+row_at n place l other a p h = row_coded 0 place n l other (omega (arith, p)) h (omega (arith, a, p))

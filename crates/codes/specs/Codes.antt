@@ -58,10 +58,10 @@ abbrev pub Coded : ℕ → Code → Type 0
 Coded n (Seldom w) = SeldomCoded n w
 Coded n c = n ≡ number_of c
 
--- the rows stand in the order of their numbers
+-- the rows stand in the order of their numbers, from n on
 abbrev pub rows_from : ℕ → List Code → Bool
 rows_from n [] = true
 rows_from n (c ∷ l) = number_of c == n && rows_from (suc n) l
 
 abbrev pub Rows : List Code → Type 0
-Rows l = rows_from 1 l ≡ true
+Rows l = rows_from 0 l ≡ true

@@ -14,8 +14,9 @@ use naming_words::words::NamingWord;
 use space_words::words::MemoryWord;
 use typing_words::words::TypingWord;
 
-// Row n is the word of code n, from 1 on.
-const KERNEL: [Code; 105] = [
+// Row n is the word of code n; no word has the code 0.
+const KERNEL: [Code; 106] = [
+    Code::Seldom(SeldomWord::Unknown),
     Code::Stack(StackWord::Dup),
     Code::Stack(StackWord::Drop),
     Code::Stack(StackWord::Swap),
@@ -123,20 +124,22 @@ const KERNEL: [Code; 105] = [
     Code::Seldom(SeldomWord::Typing(TypingWord::Text)),
 ];
 
-fn row(codes: &[Code; 105], number: u16) -> Code
-    requires { (1 ≤ number) × (number ≤ 105) × Rows codes.now }
+fn row(codes: &[Code; 106], number: u16) -> Code
+    requires { (number ≤ 105) × Rows codes.now }
     ensures { Coded number result }
 {
-    codes[usize::from(number) - 1]
+    codes[usize::from(number)]
 }
 
 impl From<u16> for Code {
     ghost from_gives = { Coded };
 
-    // What the code of a word asks for.
+    // What the code of a word asks for. The kernel words come first, by a comparison of its own.
     fn from(number: u16) -> Code {
+        if number <= 105 {
+            return row(&KERNEL, number);
+        }
         match number {
-            1..=105 => row(&KERNEL, number),
             code::COLON => Code::Colon,
             code::CREATED => Code::Created,
             code::CONSTANT => Code::Constant,

@@ -3,4 +3,4 @@ use Rattle.codes.proofs.Numbered.{row_at}
 use Rattle.codes.proofs.table.row.Goals as goal
 
 pub returns : goal.returns
-returns c = row_at c.args.number c.from.result c.args.codes.now _ c.requires.0 (omega (arith, c.requires.1, c.told-codes)) c.from.ensures c.requires.2
+returns c = row_at c.args.number c.from.result c.args.codes.now _ (omega (arith, c.requires.0, c.told-codes)) c.from.ensures c.requires.1
