@@ -7,6 +7,7 @@ use block_words::words::BlockWord;
 use compiling_words::words::CompilingWord;
 use control_words::words::ControlWord;
 use data_words::words::{BinaryWord, DivideWord, LeavingWord, StackWord, UnaryWord};
+use defining_words::words::DefiningWord;
 use dictionary::code;
 use flow_words::words::{InlineWord, ReturnsWord};
 use growing_words::words::AppendingWord;
@@ -80,12 +81,12 @@ const KERNEL: [Code; 106] = [
     Code::Seldom(SeldomWord::ToBody),
     Code::Seldom(SeldomWord::Naming(NamingWord::Paren)),
     Code::Seldom(SeldomWord::Abort),
-    Code::Seldom(SeldomWord::Naming(NamingWord::Colon)),
+    Code::Seldom(SeldomWord::Naming(NamingWord::Defining(DefiningWord::Colon))),
     Code::Seldom(SeldomWord::Compiling(CompilingWord::Semicolon)),
-    Code::Seldom(SeldomWord::Naming(NamingWord::Create)),
-    Code::Seldom(SeldomWord::Naming(NamingWord::Variable)),
-    Code::Seldom(SeldomWord::Naming(NamingWord::Constant)),
-    Code::Seldom(SeldomWord::Naming(NamingWord::Vocabulary)),
+    Code::Seldom(SeldomWord::Naming(NamingWord::Defining(DefiningWord::Create))),
+    Code::Seldom(SeldomWord::Naming(NamingWord::Defining(DefiningWord::Variable))),
+    Code::Seldom(SeldomWord::Naming(NamingWord::Defining(DefiningWord::Constant))),
+    Code::Seldom(SeldomWord::Naming(NamingWord::Defining(DefiningWord::Vocabulary))),
     Code::Seldom(SeldomWord::Compiling(CompilingWord::Definitions)),
     Code::Seldom(SeldomWord::Compiling(CompilingWord::Immediate)),
     Code::Seldom(SeldomWord::Naming(NamingWord::Forget)),

@@ -1,2 +1,3 @@
 pub mod Defining
 pub mod Made
+pub mod Numbers

@@ -1,6 +1,7 @@
 // The words that define: : CREATE VARIABLE CONSTANT VOCABULARY
 #![tactic(auto)]
 
+pub mod defining;
 mod making;
 mod names;
 mod space;

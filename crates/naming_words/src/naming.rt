@@ -3,13 +3,13 @@ ghost use Rattle.std.specs.Prelude.{◌≡◌, take};
 ghost use Rattle.naming_words.specs.Numbers.{naming_number};
 ghost use Rattle.steps.specs.Does.{FromText};
 
+use super::forgetting::forget;
+use super::quoting::dot_quote;
+use super::ticking::{bracket_compile, bracket_tick, comment, tick};
 use super::words::NamingWord;
-use defining_words::words::{colon, constant, create, variable, vocabulary};
+use defining_words::defining::defining_word;
 use definition::ranged::Registers;
 use fault::Fault;
-use finding_words::quoting::dot_quote;
-use finding_words::words::{bracket_compile, bracket_tick, comment, tick};
-use forget_word::forget;
 
 pub fn naming_word(
     registers: &mut Registers,
@@ -24,11 +24,7 @@ pub fn naming_word(
     match word {
         NamingWord::Tick => tick(registers, image, cells),
         NamingWord::Paren => comment(registers, image),
-        NamingWord::Colon => colon(registers, image),
-        NamingWord::Create => create(registers, image),
-        NamingWord::Variable => variable(registers, image),
-        NamingWord::Constant => constant(registers, image, cells),
-        NamingWord::Vocabulary => vocabulary(registers, image),
+        NamingWord::Defining(word) => defining_word(registers, word, image, cells),
         NamingWord::Forget => forget(registers, image),
         NamingWord::BracketTick => bracket_tick(registers, image),
         NamingWord::BracketCompile => bracket_compile(registers, image),

@@ -1,13 +1,11 @@
-// The words that take a name.
+// The words that take a name or a text.
+use defining_words::words::DefiningWord;
+
 #[derive(Clone, Copy)]
 pub enum NamingWord {
     Tick,
     Paren,
-    Colon,
-    Create,
-    Variable,
-    Constant,
-    Vocabulary,
+    Defining(DefiningWord),
     Forget,
     BracketTick,
     BracketCompile,

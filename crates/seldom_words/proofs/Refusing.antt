@@ -14,17 +14,22 @@ use Rattle.codes.specs.Codes.{is_known, SeldomCoded}
 use Rattle.codes.specs.Performs.{coded}
 use Rattle.codes.proofs.Lifting.{if_false}
 use Rattle.asking.proofs.States.{bare}
+use Rattle.defining_words.specs.declared.words.DefiningWord.{DefiningWord}
+use Rattle.defining_words.specs.Numbers.{defining_number}
 use Rattle.naming_words.specs.declared.words.NamingWord.{NamingWord}
 use Rattle.naming_words.specs.Numbers.{naming_number}
+
+defining_kernel : (w : DefiningWord) → (leb 1 (defining_number w) && leb (defining_number w) 105) ≡ true
+defining_kernel DefiningWord.Colon = refl
+defining_kernel DefiningWord.Create = refl
+defining_kernel DefiningWord.Variable = refl
+defining_kernel DefiningWord.Constant = refl
+defining_kernel DefiningWord.Vocabulary = refl
 
 pub naming_kernel : (w : NamingWord) → (leb 1 (naming_number w) && leb (naming_number w) 105) ≡ true
 naming_kernel NamingWord.Tick = refl
 naming_kernel NamingWord.Paren = refl
-naming_kernel NamingWord.Colon = refl
-naming_kernel NamingWord.Create = refl
-naming_kernel NamingWord.Variable = refl
-naming_kernel NamingWord.Constant = refl
-naming_kernel NamingWord.Vocabulary = refl
+naming_kernel (NamingWord.Defining w) = defining_kernel w
 naming_kernel NamingWord.Forget = refl
 naming_kernel NamingWord.BracketTick = refl
 naming_kernel NamingWord.BracketCompile = refl

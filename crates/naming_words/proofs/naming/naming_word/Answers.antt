@@ -6,17 +6,8 @@ returns-in-Tick-clause-did c = rw c.in-Tick.is c.tick.ensures
 pub returns-in-Paren-clause-did : goal.returns-in-Paren-clause-did
 returns-in-Paren-clause-did c = rw c.in-Paren.is (c.comment.ensures c.args.cells.now)
 
-pub returns-in-Colon-clause-did : goal.returns-in-Colon-clause-did
-returns-in-Colon-clause-did c = rw c.in-Colon.is (c.colon.ensures.did c.args.cells.now)
-
-pub returns-in-Variable-clause-did : goal.returns-in-Variable-clause-did
-returns-in-Variable-clause-did c = rw c.in-Variable.is (c.variable.ensures.did c.args.cells.now)
-
-pub returns-in-Constant-clause-did : goal.returns-in-Constant-clause-did
-returns-in-Constant-clause-did c = rw c.in-Constant.is c.constant.ensures.did
-
-pub returns-in-Vocabulary-clause-did : goal.returns-in-Vocabulary-clause-did
-returns-in-Vocabulary-clause-did c = rw c.in-Vocabulary.is (c.vocabulary.ensures.did c.args.cells.now)
+pub returns-in-Defining-clause-did : goal.returns-in-Defining-clause-did
+returns-in-Defining-clause-did c = rw c.in-Defining.is c.defining_word.ensures.did
 
 pub returns-in-Forget-clause-did : goal.returns-in-Forget-clause-did
 returns-in-Forget-clause-did c = rw c.in-Forget.is (c.forget.ensures.did c.args.cells.now)

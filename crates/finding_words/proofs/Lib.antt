@@ -1,3 +1,0 @@
-pub mod Entering
-pub mod Ends
-pub mod Bytes
