@@ -1,1 +1,2 @@
 pub mod Spaces
+pub mod Numbers

@@ -1,4 +1,4 @@
-// Appending to the open definition.
+// Appending to the open definition, and the tokens of the words that others compile.
 #![tactic(auto)]
 
 ghost use Rattle.std.specs.Prelude.{◌≡◌, ℕ, List, length, take};
@@ -7,11 +7,13 @@ ghost use Rattle.definition.specs.Compile.{literal_of};
 ghost use Rattle.dictionary.specs.Dict.{appended};
 ghost use Rattle.image.specs.Cells.{cell};
 
+mod tokens;
+
 use definition::ranged::Registers;
 use fault::Fault;
-use kernel_tokens::CompiledWord;
 use seat_dictionary::{dictionary_of, keep};
 use steps::faults::place;
+pub use tokens::CompiledWord;
 
 // Appends bytes, if they have space.
 pub fn append(registers: &mut Registers, image: &mut [u8; 65536], bytes: &[u8]) -> Result<(), Fault>

@@ -7,8 +7,6 @@ ghost use Rattle.definition.specs.Kernel.{has_open, ip_set, ip_zero, none_open};
 ghost use Rattle.fault.specs.declared.Reason.TheVariants.{NotFound};
 ghost use Rattle.steps.specs.Seats.{IsAnswered};
 
-pub mod running;
-
 use definition::ranged::Registers;
 use fault::{Fault, Reason};
 use steps::faults::{ask, refusal};

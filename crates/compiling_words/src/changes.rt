@@ -11,12 +11,11 @@ ghost use Rattle.store.specs.Meaning.{Meaning};
 
 use super::compiled::token_bytes;
 use super::flow::set_compiling;
-use appending::append;
+use appending::{CompiledWord, append};
 use definition::ranged::Registers;
 use dictionary::code::{CREATED, DOES};
 use entries::Entries;
 use fault::{Fault, Reason};
-use kernel_tokens::CompiledWord;
 use seat_dictionary::{dictionary_of, keep};
 use steps::cells::{self, Returns};
 use steps::faults::ask;

@@ -2,17 +2,16 @@
 ghost use Rattle.std.specs.Prelude.{◌≡◌, ℕ, ◌+◌, ◌≤◌, true, false, List, take};
 ghost use Rattle.compiling_words.specs.Acting.{OnState};
 ghost use Rattle.definition.specs.Compile.{token};
-ghost use Rattle.kernel_tokens.specs.Numbers.{compiled_number};
+ghost use Rattle.appending.specs.Numbers.{compiled_number};
 ghost use Rattle.definition.specs.declared.registers.Mark.{Mark};
 ghost use Rattle.fault.specs.declared.Reason.TheVariants.{DictionaryFull};
 ghost use Rattle.steps.specs.Does.{seen};
 ghost use Rattle.steps.specs.Seats.{IsAnswered};
 ghost use Rattle.store.specs.Meaning.{Meaning};
 
-use appending::{append, compiled, literal};
+use appending::{CompiledWord, append, compiled, literal};
 use definition::ranged::Registers;
 use fault::{Fault, Reason};
-use kernel_tokens::CompiledWord;
 use steps::cells::{self, Data};
 use steps::faults::ask;
 use steps::inside::ask_inside;

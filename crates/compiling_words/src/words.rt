@@ -1,15 +1,15 @@
 // The words that compile.
-ghost use Rattle.std.specs.Prelude.{◌≡◌, ℕ, List, take, Ok};
+ghost use Rattle.std.specs.Prelude.{◌≡◌, ℕ, List, [], ◌∷◌, take, Ok};
 ghost use Rattle.asking.specs.Asking.{StateAnswers};
 ghost use Rattle.compiling_words.specs.Acting.{OnState};
 ghost use Rattle.compiling_words.specs.Numbers.{asks_of, compiling_number, switch_number};
+ghost use Rattle.definition.specs.Kernel.{has_open, ip_set, none_open};
 ghost use Rattle.steps.specs.Does.{FromState};
 
 use super::changes::{choose_current, end_definition, give_code, mark_newest};
 use super::compiled::{compile_does, compile_literal, compile_next};
 use super::flow::set_compiling;
-use asking::running::{ask_open_and_running, ask_shut_and_running};
-use asking::{ask_none_open, ask_open};
+use asking::{ask_none_open, ask_open, ask_running};
 use definition::ranged::Registers;
 use fault::Fault;
 
@@ -24,6 +24,22 @@ pub enum CompilingWord {
     Compile,
     Does,
     SemicolonCode,
+}
+
+// Is a definition open, and does a word run?
+fn ask_open_and_running(registers: &Registers) -> Result<(), Fault>
+    ensures { StateAnswers (has_open ∷ ip_set ∷ []) registers.now result }
+{
+    ask_open(registers)?;
+    ask_running(registers)
+}
+
+// Is none open, and does a word run?
+fn ask_shut_and_running(registers: &Registers) -> Result<(), Fault>
+    ensures { StateAnswers (none_open ∷ ip_set ∷ []) registers.now result }
+{
+    ask_none_open(registers)?;
+    ask_running(registers)
 }
 
 // What each asks of the state.

@@ -4,8 +4,8 @@ ghost use Rattle.control_words.specs.Structures.{jump_bytes, IsFor};
 ghost use Rattle.control_words.specs.declared.structures.Leaves.TheVariants.{Nothing};
 
 use super::words::ControlWord;
+use appending::CompiledWord;
 use definition::registers::{Kind, Mark};
-use kernel_tokens::CompiledWord;
 
 // The marks that a word takes, by their kinds, the top first.
 #[derive(Clone, Copy)]

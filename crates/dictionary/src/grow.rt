@@ -78,12 +78,4 @@ impl Dictionary {
         self.put(image, bytes);
         Ok(())
     }
-
-    // Appends a cell.
-    pub fn append_cell(&mut self, image: &mut [u8; 65536], x: u16, told: Place) -> Result<(), Fault>
-        ensures did { Did (with_room 2 told (dict_of self.old image.old) (appended (cell x) (dict_of self.old image.old))) (dict_of self.old image.old) result (dict_of self.new image.new) }
-        ensures rest { Outside image.old image.new }
-    {
-        self.append(image, &cell_bytes(x), told)
-    }
 }

@@ -78,7 +78,7 @@ impl<'a> Entries<'a> {
     }
 
     // The length of an entry's name.
-    pub fn name_length(&self, entry: u16) -> u16
+    fn name_length(&self, entry: u16) -> u16
         requires { (256 ≤ entry) × (entry + 2 < length self.now) }
         ensures { result ≡ name_length self.now entry }
     {
@@ -112,7 +112,7 @@ impl<'a> Entries<'a> {
     }
 
     // Is this the name of an entry?
-    pub fn is_named(&self, entry: u16, name: &[u8]) -> bool
+    pub(crate) fn is_named(&self, entry: u16, name: &[u8]) -> bool
         requires { (256 ≤ entry) × ((first_at self.now entry + 2 ≤ length self.now) × (Ascii name.now)) }
         ensures { result ≡ is_named self.now entry (spelled name.now) }
     {

@@ -37,7 +37,7 @@ impl<'a> Entries<'a> {
     }
 
     // The youngest entry of that name in the thread from a head down.
-    pub fn search_thread(&self, head: u16, name: &[u8], told: Place) -> Result<Option<u16>, Fault>
+    fn search_thread(&self, head: u16, name: &[u8], told: Place) -> Result<Option<u16>, Fault>
         requires { (length self.now ≤ 32768) × (Ascii name.now) }
         ensures found { result ≡ answered told (walk (suc (length self.now)) self.now (length self.now) (spelled name.now) (length self.now) head) }
         ensures youngest { FindsYoungest told self.now (spelled name.now) head result }

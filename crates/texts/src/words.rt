@@ -41,7 +41,7 @@ pub(crate) fn text_of<'a>(registers: &Registers, image: &'a [u8; 65536]) -> &'a 
 
 // Where the next word lies in the text. Where none is left its length is 0 and its place the text's end, which the definition keeps:
 // no Option. The casts lose nothing: a text has at most 1,024 bytes.
-pub fn next_word(registers: &Registers, image: &[u8; 65536]) -> LastWord
+fn next_word(registers: &Registers, image: &[u8; 65536]) -> LastWord
     ensures place { NextIs registers.now image.now result }
     ensures inside { 1 ≤ result.length → result.start + result.length ≤ text_length registers.now.seat }
 {

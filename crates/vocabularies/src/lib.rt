@@ -36,7 +36,7 @@ fn vocabulary_of(link: u16) -> u16
 }
 
 // Is the vocabulary on the chain?
-pub fn is_on_chain(
+fn is_on_chain(
     d: &Dictionary,
     image: &[u8; 65536],
     vocabulary: u16,

@@ -1,9 +1,7 @@
 // The kernel words that other words compile.
-#![tactic(auto)]
-
 ghost use Rattle.std.specs.Prelude.{◌≡◌};
 ghost use Rattle.definition.specs.Boot.{kernel_token};
-ghost use Rattle.kernel_tokens.specs.Numbers.{compiled_number};
+ghost use Rattle.appending.specs.Numbers.{compiled_number};
 
 // EXIT (LIT) BRANCH ?BRANCH (DO) (LOOP) (+LOOP) (;CODE) (.")
 #[derive(Clone, Copy)]

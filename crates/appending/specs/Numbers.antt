@@ -1,6 +1,6 @@
--- The number of each word in the kernel table.
+-- The number in the kernel table of each word that others compile.
 use Rattle.std.specs.Prelude.{ℕ}
-use Rattle.kernel_tokens.specs.declared.CompiledWord.{CompiledWord}
+use Rattle.appending.specs.declared.tokens.CompiledWord.{CompiledWord}
 
 abbrev pub compiled_number : CompiledWord → ℕ
 compiled_number CompiledWord.Exit = 91
