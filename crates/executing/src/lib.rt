@@ -3,4 +3,5 @@
 
 pub mod execution;
 mod performing;
+mod running;
 mod tokens;

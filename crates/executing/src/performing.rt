@@ -2,7 +2,7 @@
 ghost use Rattle.std.specs.Prelude.{◌≡◌, ◌≢◌, ◌+◌, ◌≤◌, take};
 ghost use Rattle.codes.specs.Performs.{memory, FullKeeps, Performs};
 
-use asking_words::running::{reading, returning};
+use super::running::{reading, returning};
 use codes::code::Code;
 use codes::went;
 use data_words::leaving::leaving_word;
@@ -11,12 +11,12 @@ use data_words::one_cell::unary_word;
 use data_words::two_cells::binary_word;
 use definition::ranged::Registers;
 use definition::registers::Mark;
-use entering_words::entering::{colon_word, does_word};
 use fault::Fault;
 use seldom_words::words::seldom_word;
 use space_words::space::memory_word;
 use steps::progress::Progress;
 use store::Store;
+use token_words::entering::{colon_word, does_word};
 use token_words::tokens::{PushingWord, pushing_word};
 use typing_words::output::Output;
 

@@ -6,9 +6,9 @@ ghost use Rattle.fault.specs.Numbers.{fault_of};
 ghost use Rattle.fault.specs.declared.Reason.TheVariants.{Aborted};
 ghost use Rattle.steps.specs.Seats.{told_by};
 
-use asking_words::building::building;
-use asking_words::growing::{allotting, appending, loading};
-use asking_words::running::typing;
+use super::building::building;
+use super::growing::{allotting, appending, loading};
+use super::typing::typing;
 use block_words::words::block_word;
 use codes::code::SeldomWord;
 use codes::went;
@@ -16,13 +16,13 @@ use compiling_words::words::compiling_word;
 use data_words::dividing::divide_word;
 use definition::ranged::Registers;
 use definition::registers::Mark;
-use entering_words::vocabulary::vocabulary_word;
 use fault::{Fault, Reason};
 use naming_words::naming::naming_word;
 use steps::faults::refusal;
 use steps::progress::Progress;
 use store::Store;
 use token_words::tokens::body_word;
+use token_words::vocabulary::vocabulary_word;
 use typing_words::output::Output;
 
 // ABORT is a fault itself.

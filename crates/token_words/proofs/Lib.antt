@@ -1,1 +1,3 @@
+pub mod Entered
 pub mod Pushing
+pub mod Seeking

@@ -1,4 +1,6 @@
-// Created words and constants, executed by their token, and >BODY.
+// Words that are executed by their token: created words, constants, colon words, words with DOES> code and vocabularies; and >BODY.
 #![tactic(auto)]
 
+pub mod entering;
 pub mod tokens;
+pub mod vocabulary;

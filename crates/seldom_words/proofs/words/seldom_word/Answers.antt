@@ -13,7 +13,7 @@ use Rattle.codes.specs.Performs.{coded}
 use Rattle.codes.proofs.Lifting.{quiet}
 use Rattle.codes.proofs.Groups.{never_full, cells_performs, space_performs, state_performs, text_performs, marks_performs, blocks_performs, other_performs, acts_performs, typing_performs}
 use Rattle.codes.proofs.Rows.{divide_rows, appending_rows, block_rows, control_rows, body_row, abort_row}
-use Rattle.asking_words.proofs.Typing.{typing_rows}
+use Rattle.seldom_words.proofs.Rows.{typing_rows}
 use Rattle.seldom_words.proofs.Refusing.{naming_kernel, abort_refuses, not_known, unknown_refuses}
 use Rattle.seldom_words.proofs.words.seldom_word.Goals as goal
 
