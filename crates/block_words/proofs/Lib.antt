@@ -1,2 +1,4 @@
 pub mod Views
 pub mod Finishing
+pub mod Stacking
+pub mod Opening

@@ -1,5 +1,8 @@
-// The block buffer over any store: bringing a block in, and the words BLOCK, UPDATE and FLUSH.
+// The block buffer over any store: bringing a block in, the words BLOCK, UPDATE and FLUSH, and the open loads: LOAD opens one, and where
+// its text is at an end its caller goes on.
 #![tactic(auto)]
 
 pub mod bringing;
+pub mod loading;
+mod stack;
 pub mod words;

@@ -10,8 +10,8 @@ use Rattle.definition.specs.Words.{row_of, do_kernel, other_word}
 use Rattle.steps.specs.declared.progress.Progress.{Progress}
 use Rattle.steps.specs.Does.{seen, acts, does, Does, Did, OnCells, OnSpace, OnBlocks, FromText, FromState, DidType, Grows}
 use Rattle.codes.specs.Performs.{coded, went_by, Memory, memory, Performs, FullKeeps}
-use Rattle.asking.proofs.Words.{did_by}
-use Rattle.asking.proofs.States.{Asking, bare}
+use Rattle.steps.proofs.Words.{did_by}
+use Rattle.steps.proofs.States.{Asking, bare}
 use Rattle.codes.proofs.Lifting.{quiet, plain_did, kernel_does, if_false}
 
 -- a word that types nothing leaves no full output

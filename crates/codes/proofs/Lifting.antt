@@ -10,7 +10,7 @@ use Rattle.definition.specs.Machine.{Machine}
 use Rattle.definition.specs.Asked.{Asked, After}
 use Rattle.definition.specs.Words.{do_kernel, row_of, other_word}
 use Rattle.steps.specs.Does.{seen, acts, does, Did, DidType, Grows}
-use Rattle.asking.proofs.States.{Asking, bare, asked_first}
+use Rattle.steps.proofs.States.{Asking, bare, asked_first}
 use Rattle.codes.specs.Performs.{coded, went_by, Acts}
 
 types_nothing : (x : Asked After) (m m' : Machine) (space : ℕ) (o : Result (Unit {0}) Fault) → Did x o m' → DidType x m space (went_by o) m' []

@@ -4,9 +4,8 @@ use compiling_words::words::CompilingWord;
 use control_words::words::ControlWord;
 use data_words::words::{BinaryWord, DivideWord, LeavingWord, StackWord, UnaryWord};
 use flow_words::words::{InlineWord, ReturnsWord};
-use growing_words::words::AppendingWord;
 use naming_words::words::NamingWord;
-use space_words::words::MemoryWord;
+use space_words::words::{AppendingWord, MemoryWord};
 use typing_words::words::TypingWord;
 
 #[derive(Clone, Copy)]

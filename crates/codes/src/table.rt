@@ -10,9 +10,8 @@ use data_words::words::{BinaryWord, DivideWord, LeavingWord, StackWord, UnaryWor
 use defining_words::words::DefiningWord;
 use dictionary::code;
 use flow_words::words::{InlineWord, ReturnsWord};
-use growing_words::words::AppendingWord;
 use naming_words::words::NamingWord;
-use space_words::words::MemoryWord;
+use space_words::words::{AppendingWord, MemoryWord};
 use typing_words::words::TypingWord;
 
 // Row n is the word of code n; no word has the code 0.

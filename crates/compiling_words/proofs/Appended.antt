@@ -24,8 +24,8 @@ use Rattle.steps.specs.Seats.{told_by, with_cell_depth, with_pointer}
 use Rattle.steps.specs.Does.{seen, acts, IsRefused}
 use Rattle.steps.proofs.Exits.{refused_at, does_like, has_cells_lem, lacks_cells, cells_view, pointer_view}
 use Rattle.steps.proofs.Dictionary.{low_long, inside_tells, inside_is}
-use Rattle.appending.specs.Spaces.{in_space, InSpace}
-use Rattle.appending.proofs.Answered.{spaced, full_like}
+use Rattle.steps.specs.Spaces.{in_space, InSpace}
+use Rattle.steps.proofs.Answered.{spaced, full_like}
 use Rattle.compiling_words.specs.Acting.{OnState}
 
 -- DOES>

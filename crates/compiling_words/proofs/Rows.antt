@@ -8,8 +8,8 @@ use Rattle.definition.specs.Asked.{Asked, refused, given, ask, ◌>>◌, After, 
 use Rattle.definition.specs.Kernel
 use Rattle.definition.specs.Words.{Argument, perform}
 use Rattle.steps.specs.Does.{seen, acts}
-use Rattle.asking.specs.Asking.{StateAnswers}
-use Rattle.asking.proofs.States.{Asking}
+use Rattle.steps.specs.Asking.{StateAnswers}
+use Rattle.steps.proofs.States.{Asking}
 use Rattle.compiling_words.specs.declared.words.CompilingWord.{CompilingWord}
 use Rattle.compiling_words.specs.Numbers.{compiling_number, asks_of, switch_number}
 

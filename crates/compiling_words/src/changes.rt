@@ -11,16 +11,17 @@ ghost use Rattle.store.specs.Meaning.{Meaning};
 
 use super::compiled::token_bytes;
 use super::flow::set_compiling;
-use appending::{CompiledWord, append};
 use definition::ranged::Registers;
 use dictionary::code::{CREATED, DOES};
 use entries::Entries;
 use fault::{Fault, Reason};
-use seat_dictionary::{dictionary_of, keep};
+use steps::appending::append;
 use steps::cells::{self, Returns};
 use steps::faults::ask;
 use steps::inside::has_newest;
 use steps::pointer::go_to;
+use steps::seat_dictionary::{dictionary_of, keep};
+use steps::tokens::CompiledWord;
 
 // The open entry joins its thread.
 fn join(registers: &mut Registers, image: &mut [u8; 65536])

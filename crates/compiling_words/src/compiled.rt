@@ -2,20 +2,21 @@
 ghost use Rattle.std.specs.Prelude.{◌≡◌, ℕ, ◌+◌, ◌≤◌, true, false, List, take};
 ghost use Rattle.compiling_words.specs.Acting.{OnState};
 ghost use Rattle.definition.specs.Compile.{token};
-ghost use Rattle.appending.specs.Numbers.{compiled_number};
+ghost use Rattle.steps.specs.Numbers.{compiled_number};
 ghost use Rattle.definition.specs.declared.registers.Mark.{Mark};
 ghost use Rattle.fault.specs.declared.Reason.TheVariants.{DictionaryFull};
 ghost use Rattle.steps.specs.Does.{seen};
 ghost use Rattle.steps.specs.Seats.{IsAnswered};
 ghost use Rattle.store.specs.Meaning.{Meaning};
 
-use appending::{CompiledWord, append, compiled, literal};
 use definition::ranged::Registers;
 use fault::{Fault, Reason};
+use steps::appending::{append, compiled, literal};
 use steps::cells::{self, Data};
 use steps::faults::ask;
 use steps::inside::ask_inside;
 use steps::pointer::set_pointer;
+use steps::tokens::CompiledWord;
 
 // LITERAL: the cell is taken off the stack, and pushed when the definition runs.
 pub(crate) fn compile_literal(

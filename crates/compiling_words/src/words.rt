@@ -1,6 +1,6 @@
 // The words that compile.
 ghost use Rattle.std.specs.Prelude.{◌≡◌, ℕ, List, [], ◌∷◌, take, Ok};
-ghost use Rattle.asking.specs.Asking.{StateAnswers};
+ghost use Rattle.steps.specs.Asking.{StateAnswers};
 ghost use Rattle.compiling_words.specs.Acting.{OnState};
 ghost use Rattle.compiling_words.specs.Numbers.{asks_of, compiling_number, switch_number};
 ghost use Rattle.definition.specs.Kernel.{has_open, ip_set, none_open};
@@ -9,9 +9,9 @@ ghost use Rattle.steps.specs.Does.{FromState};
 use super::changes::{choose_current, end_definition, give_code, mark_newest};
 use super::compiled::{compile_does, compile_literal, compile_next};
 use super::flow::set_compiling;
-use asking::{ask_none_open, ask_open, ask_running};
 use definition::ranged::Registers;
 use fault::Fault;
+use steps::asking::{ask_none_open, ask_open, ask_running};
 
 #[derive(Clone, Copy)]
 pub enum CompilingWord {

@@ -26,9 +26,9 @@ use Rattle.steps.specs.Seats.{told_by}
 use Rattle.steps.specs.Does.{seen, IsRefused}
 use Rattle.steps.proofs.Exits.{refused_at}
 use Rattle.steps.proofs.Dictionary.{low_long, inside_is}
-use Rattle.seat_dictionary.proofs.Changing.{ReadOff, read_back, changed_view}
-use Rattle.appending.proofs.Answered.{spaced, full_stays}
-use Rattle.appending.specs.Spaces.{InSpace}
+use Rattle.steps.proofs.Changing.{ReadOff, read_back, changed_view}
+use Rattle.steps.proofs.Answered.{spaced, full_stays}
+use Rattle.steps.specs.Spaces.{InSpace}
 use Rattle.control_words.specs.declared.structures.Structure.{Structure}
 use Rattle.control_words.specs.Structures.{kinds_of, bytes_of, cells_of, marks_of, learned, Learns, Replaces, Builds}
 

@@ -2,7 +2,7 @@
 use Rattle.std.proofs.Common.{◌≡◌, ℕ, ◌+◌, ◌%◌, ◌≤◌, Bool, true, false, ◌&&◌, leb, [], ◌∷◌, ◌++◌, Some, None, refl, ap, ◌∙◌, arith}
 use Rattle.std.proofs.lemmas.Bool.{leb-true, and_parts}
 use Rattle.image.specs.Cells.{cell}
-use Rattle.appending.specs.declared.tokens.CompiledWord.TheVariants.{Branch, BranchIfZero, Do, Loop, PlusLoop}
+use Rattle.steps.specs.declared.tokens.CompiledWord.TheVariants.{Branch, BranchIfZero, Do, Loop, PlusLoop}
 use Rattle.definition.specs.declared.registers.Kind.TheVariants as kinds
 use Rattle.definition.specs.Machine.{Machine, dp}
 use Rattle.definition.specs.Words.{perform}

@@ -3,7 +3,7 @@ use Rattle.std.specs.Prelude.{◌≡◌, ℕ, Bool, true, List, [], ◌∷◌, �
 use Rattle.fault.specs.declared.Fault.{Fault}
 use Rattle.steps.specs.Inside.{inside}
 use Rattle.image.specs.Cells.{cell}
-use Rattle.appending.specs.Numbers.{compiled_number}
+use Rattle.steps.specs.Numbers.{compiled_number}
 use Rattle.definition.specs.declared.registers.Kind.{Kind}
 use Rattle.definition.specs.declared.registers.Kind.TheVariants.{If}
 use Rattle.definition.specs.declared.registers.Mark.{Mark}

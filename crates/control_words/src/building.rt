@@ -1,6 +1,6 @@
 // Building a structure: its questions, then its bytes, its cell and its marks.
 ghost use Rattle.std.specs.Prelude.{◌≡◌, ℕ, ◌+◌, ◌≤◌, true, false, List, length, take, IfSome};
-ghost use Rattle.appending.specs.Spaces.{InSpace};
+ghost use Rattle.steps.specs.Spaces.{InSpace};
 ghost use Rattle.control_words.specs.Structures.{bytes_of, cells_of, kinds_of, learned, marks_of, Builds, Learns};
 ghost use Rattle.definition.specs.Compile.{are_marks};
 ghost use Rattle.dictionary.specs.Dict.{appended};
@@ -11,13 +11,13 @@ ghost use Rattle.steps.specs.Seats.{IsAnswered};
 
 use super::marks::{are_marks, depth, replace_marks};
 use super::structures::{Jump, Leaves, Structure, Takes};
-use appending::append;
 use definition::ranged::Registers;
 use definition::registers::Mark;
 use fault::{Fault, Reason};
-use seat_dictionary::dictionary_of;
+use steps::appending::append;
 use steps::faults::ask;
 use steps::inside::is_inside;
+use steps::seat_dictionary::dictionary_of;
 
 impl Takes {
     fn count(self) -> usize

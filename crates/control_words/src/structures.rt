@@ -4,8 +4,8 @@ ghost use Rattle.control_words.specs.Structures.{jump_bytes, IsFor};
 ghost use Rattle.control_words.specs.declared.structures.Leaves.TheVariants.{Nothing};
 
 use super::words::ControlWord;
-use appending::CompiledWord;
 use definition::registers::{Kind, Mark};
+use steps::tokens::CompiledWord;
 
 // The marks that a word takes, by their kinds, the top first.
 #[derive(Clone, Copy)]
@@ -31,7 +31,7 @@ pub(crate) struct Jump {
 }
 
 impl Jump {
-    #[tactic(auto, using(appending::proofs::Bytes::two_cells))]
+    #[tactic(auto, using(steps::proofs::Bytes::two_cells))]
     pub(crate) fn bytes(self) -> [u8; 4]
         ensures { result ≡ jump_bytes self }
     {

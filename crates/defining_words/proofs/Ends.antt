@@ -26,10 +26,10 @@ use Rattle.definition.proofs.Agreeing.{dp_bottom}
 use Rattle.steps.specs.Seats.{told_by, with_cell_depth}
 use Rattle.steps.specs.Does.{seen, Does, Did, IsRefused, FromText}
 use Rattle.steps.proofs.Exits.{yes, no, has_cells_lem, lacks_cells, cells_view}
-use Rattle.seat_dictionary.proofs.Changing.{here_seen}
-use Rattle.asking.specs.Asking.{Took, StateAnswers}
-use Rattle.asking.proofs.Words.{acted}
-use Rattle.appending.specs.Spaces.{in_space, InSpace}
+use Rattle.steps.proofs.Changing.{here_seen}
+use Rattle.steps.specs.Asking.{Took, StateAnswers}
+use Rattle.steps.proofs.Words.{acted}
+use Rattle.steps.specs.Spaces.{in_space, InSpace}
 use Rattle.defining_words.specs.Defining.{compiling}
 use Rattle.steps.specs.DataSpace.{with_here}
 

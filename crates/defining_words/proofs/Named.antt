@@ -10,8 +10,8 @@ use Rattle.definition.specs.Words.{Argument, argument, taken, all_asked}
 use Rattle.steps.specs.Does.{seen}
 use Rattle.texts.specs.declared.name.Name.{Name}
 use Rattle.texts.specs.Names.{name_of, TookName}
-use Rattle.asking.specs.Asking.{Took, StateAnswers}
-use Rattle.asking.proofs.Words.{refuses_on}
+use Rattle.steps.specs.Asking.{Took, StateAnswers}
+use Rattle.steps.proofs.Words.{refuses_on}
 use Rattle.defining_words.specs.Defining.{NamedFor}
 
 module _ (qs : List Asks) (r r' : Registers) (i : List ℕ) where

@@ -6,7 +6,7 @@ use Rattle.definition.specs.declared.registers.Seat.{Seat}
 use Rattle.definition.specs.Kernel.{Asks, a_name}
 use Rattle.texts.specs.declared.name.Name.{Name}
 use Rattle.texts.specs.Names.{name_of}
-use Rattle.asking.specs.Asking.{Took, NotReady, StateAnswers}
+use Rattle.steps.specs.Asking.{Took, NotReady, StateAnswers}
 
 -- a name was taken and these questions answered, or one is refused
 abbrev pub NamedFor : List Asks → Registers → List ℕ → Result Name Fault → Registers → Type 0

@@ -1,6 +1,6 @@
 // Entries that are made or begun, as changes of the machine.
 ghost use Rattle.std.specs.Prelude.{◌≡◌, ◌+◌, take};
-ghost use Rattle.appending.specs.Spaces.{InSpace};
+ghost use Rattle.steps.specs.Spaces.{InSpace};
 ghost use Rattle.defining_words.specs.Made.{code_of, value_of};
 ghost use Rattle.definition.specs.Define.{entry_size};
 ghost use Rattle.dictionary.specs.Dict.{colon_begun, defined, vocabulary_defined};
@@ -12,8 +12,8 @@ use definition::ranged::Registers;
 use dictionary::Header;
 use dictionary::code::{CONSTANT, CREATED};
 use fault::Fault;
-use seat_dictionary::{dictionary_of, keep};
 use steps::faults::place;
+use steps::seat_dictionary::{dictionary_of, keep};
 use texts::name::Name;
 
 // The view of an entry that begins: BLK.

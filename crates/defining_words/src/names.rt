@@ -3,9 +3,9 @@ ghost use Rattle.std.specs.Prelude.{◌≡◌, [], ◌∷◌, IfOk};
 ghost use Rattle.defining_words.specs.Defining.{NamedFor};
 ghost use Rattle.definition.specs.Kernel.{ip_zero, none_open};
 
-use asking::{ask_at_rest, ask_none_open};
 use definition::ranged::Registers;
 use fault::Fault;
+use steps::asking::{ask_at_rest, ask_none_open};
 use texts::name::Name;
 use texts::names::take_name;
 

@@ -1,9 +1,7 @@
-// A search, boot, and sessions on the dictionary that boot leaves, each with what it must leave. They stand here because a crate with tests is proved
-// twice.
+// A search, and sessions on the dictionary that boot leaves, each with what it must leave. They stand here because a crate with
+// tests is proved twice.
 #![tactic(auto)]
 
-#[cfg(test)]
-mod booting;
 #[cfg(test)]
 mod broken;
 #[cfg(test)]

@@ -3,12 +3,12 @@ ghost use Rattle.std.specs.Prelude.{ℕ, List};
 ghost use Rattle.flow_words.specs.Numbers.{inline_number, returns_number};
 ghost use Rattle.steps.specs.Does.{FromState};
 
-use asking::ask_running;
 use definition::ranged::Registers;
 use fault::Fault;
 use flow_words::inline::inline_word;
 use flow_words::returning::returns_word;
 use flow_words::words::{InlineWord, ReturnsWord};
+use steps::asking::ask_running;
 
 // EXIT >R R> R@ I J LEAVE
 pub(crate) fn returning(

@@ -17,9 +17,9 @@ use Rattle.definition.specs.Compile.{appends, literal_of, token}
 use Rattle.definition.specs.Words.{argument, taken, perform}
 use Rattle.steps.specs.Does.{seen, Does, Did, FromText}
 use Rattle.texts.specs.Strings.{between, TookTo}
-use Rattle.asking.specs.Asking.{Took, NotTaken, StateAnswers}
-use Rattle.asking.proofs.Words.{refuses_on, did_by, acted}
-use Rattle.appending.specs.Spaces.{InSpace}
+use Rattle.steps.specs.Asking.{Took, NotTaken, StateAnswers}
+use Rattle.steps.proofs.Words.{refuses_on, did_by, acted}
+use Rattle.steps.specs.Spaces.{InSpace}
 
 -- a text up to a byte
 module _ (r r' : Registers) (i : List ℕ) where

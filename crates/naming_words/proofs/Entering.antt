@@ -18,9 +18,9 @@ use Rattle.steps.specs.Seats.{told_by, IsAnswered}
 use Rattle.steps.specs.Does.{seen}
 use Rattle.texts.specs.declared.name.Name.{Name}
 use Rattle.texts.specs.Names.{name_of, TookName}
-use Rattle.finding.specs.Finding.{Answers, EntryInside}
-use Rattle.asking.proofs.Names.{same_dict}
-use Rattle.asking.proofs.Words.{refuses_on}
+use Rattle.texts.specs.Finding.{Answers, EntryInside}
+use Rattle.steps.proofs.Names.{same_dict}
+use Rattle.steps.proofs.Words.{refuses_on}
 use Rattle.naming_words.specs.Entries.{TookEntry}
 
 -- the rest once the name was taken

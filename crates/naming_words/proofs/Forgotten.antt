@@ -21,10 +21,10 @@ use Rattle.definition.specs.Kernel
 use Rattle.definition.specs.Words.{perform}
 use Rattle.steps.specs.Seats.{told_by}
 use Rattle.steps.specs.Does.{seen, IsRefused, FromText}
-use Rattle.seat_dictionary.proofs.Changing.{ReadOff, PutBack, dict_seen, cut_view}
-use Rattle.appending.proofs.Spaces.{same_view}
-use Rattle.asking.specs.Asking.{Took, StateAnswers}
-use Rattle.asking.proofs.Words.{acted}
+use Rattle.steps.proofs.Changing.{ReadOff, PutBack, dict_seen, cut_view}
+use Rattle.steps.proofs.Spaces.{same_view}
+use Rattle.steps.specs.Asking.{Took, StateAnswers}
+use Rattle.steps.proofs.Words.{acted}
 
 -- the answer of the two questions and of what follows
 refused_by : (a b : Bool) (D : Dict) (p : Place) (e : Fault) (m : Machine) (x : Asked After) → cond a (cond b (Ok D) (Err (fault_of BelowFence p))) (Err (fault_of BadToken p)) ≡ Err e → p ≡ told m → IsRefused (ask m BadToken a >> (ask m BelowFence b >> x)) e m

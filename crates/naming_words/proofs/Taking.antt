@@ -24,12 +24,12 @@ use Rattle.definition.specs.Text.{Taken, take_name, ask_found, ask_there}
 use Rattle.definition.specs.Words.{Argument, argument, taken}
 use Rattle.steps.specs.Seats.{told_by}
 use Rattle.steps.specs.Does.{seen}
-use Rattle.seat_dictionary.proofs.Changing.{ReadOff, dict_seen}
+use Rattle.steps.proofs.Changing.{ReadOff, dict_seen}
 use Rattle.texts.specs.declared.name.Name.{Name}
 use Rattle.texts.specs.Names.{name_of, TookName}
-use Rattle.finding.proofs.Entering.{whole_in}
-use Rattle.asking.proofs.Names.{same_dict}
-use Rattle.asking.proofs.Words.{refuses_on}
+use Rattle.texts.proofs.Entering.{whole_in}
+use Rattle.steps.proofs.Names.{same_dict}
+use Rattle.steps.proofs.Words.{refuses_on}
 use Rattle.naming_words.specs.Forgettable.{TookForgettable}
 
 -- the question on what is walked, and the rest of the questions, once the name was taken

@@ -3,7 +3,7 @@ use Rattle.std.specs.Prelude.{ℕ, ◌+◌, ◌≤◌, List, Ok, Err, Result}
 use Rattle.fault.specs.declared.Fault.{Fault}
 use Rattle.definition.specs.declared.ranged.Registers.{Registers}
 use Rattle.definition.specs.Kernel.{a_word}
-use Rattle.asking.specs.Asking.{Took, NotTaken}
+use Rattle.steps.specs.Asking.{Took, NotTaken}
 
 -- a name was taken and its entry, which lies in the dictionary, was found; or it was refused
 abbrev pub TookEntry : Registers → List ℕ → Result ℕ Fault → Registers → Type 0

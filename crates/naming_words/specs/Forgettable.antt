@@ -6,7 +6,7 @@ use Rattle.trimming.specs.Asks.{in_order_for}
 use Rattle.definition.specs.declared.ranged.Registers.{Registers}
 use Rattle.definition.specs.Boot.{fence}
 use Rattle.definition.specs.Kernel.{a_forgettable}
-use Rattle.asking.specs.Asking.{Took, NotTaken}
+use Rattle.steps.specs.Asking.{Took, NotTaken}
 
 -- a name was taken and its entry was found, and all that is walked to forget it is in order; or it was refused
 abbrev pub TookForgettable : Registers → List ℕ → Result ℕ Fault → Registers → Type 0

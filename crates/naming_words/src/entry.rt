@@ -4,12 +4,12 @@ ghost use Rattle.entries.specs.Entries.{token_of};
 ghost use Rattle.naming_words.specs.Entries.{TookEntry};
 ghost use Rattle.image.specs.Views.{low_of};
 
-use asking::ask_there;
 use definition::ranged::Registers;
 use entries::Entries;
 use fault::Fault;
-use finding::searching::search;
+use steps::asking::ask_there;
 use texts::names::take_name;
+use texts::searching::search;
 
 // Takes a name, and finds its entry in the search order.
 pub(crate) fn take_entry(registers: &mut Registers, image: &[u8; 65536]) -> Result<u16, Fault>

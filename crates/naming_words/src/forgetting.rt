@@ -4,12 +4,12 @@ ghost use Rattle.definition.specs.Boot.{fence};
 ghost use Rattle.naming_words.specs.Forgettable.{TookForgettable};
 ghost use Rattle.steps.specs.Does.{FromText};
 
-use asking::{ask_at_rest, ask_there};
 use definition::ranged::Registers;
 use fault::Fault;
 use kernel_table::fence_address;
-use seat_dictionary::{dictionary_of, keep};
+use steps::asking::{ask_at_rest, ask_there};
 use steps::faults::place;
+use steps::seat_dictionary::{dictionary_of, keep};
 use texts::names::take_name;
 use trimming::{can_trim, find, trim};
 

@@ -3,10 +3,11 @@ ghost use Rattle.std.specs.Prelude.{◌≡◌, ℕ, ◌+◌, ◌≤◌, List, �
 ghost use Rattle.definition.specs.Compile.{token};
 ghost use Rattle.steps.specs.Does.{FromText};
 
-use appending::{CompiledWord, append};
-use asking::ask_open;
 use definition::ranged::Registers;
 use fault::Fault;
+use steps::appending::append;
+use steps::asking::ask_open;
+use steps::tokens::CompiledWord;
 use texts::strings::take_to;
 
 // Puts (."), a count byte and a text, as they are compiled, and answers where they end. The cast loses nothing: a text has at most

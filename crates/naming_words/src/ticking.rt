@@ -4,10 +4,10 @@ ghost use Rattle.steps.specs.Does.{FromText};
 ghost use Rattle.texts.specs.Strings.{TookTo};
 
 use super::entry::{take_entry, token_at};
-use appending::{append, compiled, literal};
-use asking::ask_open;
 use definition::ranged::Registers;
 use fault::Fault;
+use steps::appending::{append, compiled, literal};
+use steps::asking::ask_open;
 use steps::cells;
 use texts::strings::take_to;
 

@@ -13,7 +13,7 @@ use Rattle.codes.specs.declared.code.SeldomWord.{SeldomWord}
 use Rattle.codes.specs.Codes.{is_known, SeldomCoded}
 use Rattle.codes.specs.Performs.{coded}
 use Rattle.codes.proofs.Lifting.{if_false}
-use Rattle.asking.proofs.States.{bare}
+use Rattle.steps.proofs.States.{bare}
 use Rattle.defining_words.specs.declared.words.DefiningWord.{DefiningWord}
 use Rattle.defining_words.specs.Numbers.{defining_number}
 use Rattle.naming_words.specs.declared.words.NamingWord.{NamingWord}

@@ -1,6 +1,6 @@
 -- The rows of the words that type.
 use Rattle.std.proofs.Common.{refl}
-use Rattle.asking.proofs.States.{Asking}
+use Rattle.steps.proofs.States.{Asking}
 use Rattle.typing_words.specs.declared.words.TypingWord.{TypingWord}
 use Rattle.typing_words.specs.Numbers.{typing_number}
 use Rattle.seldom_words.specs.Asked.{typing_asks}

@@ -3,11 +3,11 @@ ghost use Rattle.std.specs.Prelude.{◌≡◌, take};
 ghost use Rattle.seldom_words.specs.Asked.{FromMarks};
 ghost use Rattle.control_words.specs.Numbers.{control_number};
 
-use asking::ask_open;
 use control_words::words::{ControlWord, control_word};
 use definition::ranged::Registers;
 use definition::registers::Mark;
 use fault::Fault;
+use steps::asking::ask_open;
 
 // IF to +LOOP
 pub(crate) fn building(

@@ -1,15 +1,15 @@
 // Words on data space that ask for no open definition (9), and LOAD, which asks that no word runs (10).
 ghost use Rattle.std.specs.Prelude.{◌≡◌, ℕ, List, length, take};
-ghost use Rattle.growing_words.specs.Numbers.{appending_number};
+ghost use Rattle.space_words.specs.Numbers.{appending_number};
 ghost use Rattle.steps.specs.Does.{FromState};
 
-use asking::{ask_none_open, ask_not_running};
+use block_words::loading::load_word;
 use definition::ranged::Registers;
 use fault::Fault;
-use growing_words::allot::allot;
-use growing_words::growing::appending_word;
-use growing_words::words::AppendingWord;
-use loads::loading::load_word;
+use space_words::allot::allot;
+use space_words::growing::appending_word;
+use space_words::words::AppendingWord;
+use steps::asking::{ask_none_open, ask_not_running};
 
 // , C,
 pub(crate) fn appending(

@@ -1,12 +1,12 @@
 // The words that type.
 ghost use Rattle.std.specs.Prelude.{◌≡◌};
-ghost use Rattle.asking.specs.Asking.{StateAnswers};
+ghost use Rattle.steps.specs.Asking.{StateAnswers};
 ghost use Rattle.seldom_words.specs.Asked.{typing_asks, FromOutput};
 ghost use Rattle.typing_words.specs.Numbers.{typing_number};
 
-use asking::ask_running;
 use definition::ranged::Registers;
 use fault::Fault;
+use steps::asking::ask_running;
 use steps::progress::Progress;
 use typing_words::output::Output;
 use typing_words::typing::typing_word;

@@ -13,7 +13,7 @@ use Rattle.definition.specs.Step
 use Rattle.definition.specs.Step.{Outcome, outcome, needs_block, bringing, ended, interpreted, from_text}
 use Rattle.steps.specs.Does.{seen, IsRefused}
 use Rattle.texts.specs.Texts.{word_in, NoneLeft, TookWord}
-use Rattle.loads.specs.Reading.{EndsLoad}
+use Rattle.block_words.specs.Reading.{EndsLoad}
 use Rattle.block_words.specs.Buffers.{holding, Brings}
 use Rattle.stepping.specs.declared.next.Next.{Next}
 use Rattle.stepping.specs.declared.next.Next.TheVariants as next

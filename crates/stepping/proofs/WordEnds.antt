@@ -15,11 +15,11 @@ use Rattle.definition.specs.Step
 use Rattle.definition.specs.Step.{Outcome, outcome, acted, interpreted}
 use Rattle.steps.specs.Does.{seen, IsRefused, Does}
 use Rattle.texts.specs.Texts.{word_in}
-use Rattle.finding.specs.declared.word.Word.{Word}
-use Rattle.finding.specs.declared.word.Word.TheVariants.{Plain, Number}
-use Rattle.finding.specs.Finding.{classified, Interpreting, meant, KindIs}
-use Rattle.finding.proofs.Answering.{refuses_on}
-use Rattle.appending.specs.Spaces.{in_space}
+use Rattle.texts.specs.declared.word.Word.{Word}
+use Rattle.texts.specs.declared.word.Word.TheVariants.{Plain, Number}
+use Rattle.texts.specs.Finding.{classified, Interpreting, meant, KindIs}
+use Rattle.texts.proofs.Answering.{refuses_on}
+use Rattle.steps.specs.Spaces.{in_space}
 use Rattle.stepping.specs.declared.next.Next.TheVariants as next
 use Rattle.stepping.specs.Steps.{Leads, Interprets}
 

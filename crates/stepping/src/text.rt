@@ -9,9 +9,9 @@ ghost use Rattle.store.specs.Meaning.{Meaning};
 use super::next::Next;
 use super::word::interpret;
 use block_words::bringing::{bring, holds};
+use block_words::loading::end_load;
 use definition::ranged::Registers;
 use fault::Fault;
-use loads::loading::end_load;
 use store::Store;
 use texts::words::take_word;
 

@@ -4,12 +4,12 @@ ghost use Rattle.stepping.specs.Steps.{Interprets};
 ghost use Rattle.texts.specs.Texts.{WordInside};
 
 use super::next::Next;
-use appending::{append, compiled, literal};
 use definition::ranged::Registers;
 use fault::Fault;
-use finding::kinds::word_of;
-use finding::word::Word;
+use steps::appending::{append, compiled, literal};
 use steps::cells;
+use texts::kinds::word_of;
+use texts::word::Word;
 
 // What happens depends on the compiling flag and on the word just taken. A token to be executed is answered: execution is called from
 // one place.

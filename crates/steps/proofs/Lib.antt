@@ -1,2 +1,9 @@
 pub mod Exits
 pub mod Dictionary
+pub mod Names
+pub mod States
+pub mod Words
+pub mod Changing
+pub mod Spaces
+pub mod Bytes
+pub mod Answered

@@ -2,6 +2,8 @@
 // read or write, and registers hold no lent memory.
 #![tactic(auto)]
 
+pub mod appending;
+pub mod asking;
 pub mod base;
 pub mod cells;
 pub mod data_space;
@@ -9,3 +11,5 @@ pub mod faults;
 pub mod inside;
 pub mod pointer;
 pub mod progress;
+pub mod seat_dictionary;
+pub mod tokens;

@@ -21,7 +21,7 @@ use Rattle.steps.proofs.Dictionary.{inside_is}
 use Rattle.steps.specs.Seats.{told_by}
 use Rattle.steps.specs.Does.{seen, Does}
 use Rattle.steps.proofs.Exits.{refused_at}
-use Rattle.seat_dictionary.proofs.Changing.{ReadOff, PutBack, dict_seen, changed_view}
+use Rattle.steps.proofs.Changing.{ReadOff, PutBack, dict_seen, changed_view}
 
 same_fault : (f g : Fault) → ◌≡◌ {A = Result Dict Fault} (Err f) (Err g) → f ≡ g
 same_fault f g e = cc

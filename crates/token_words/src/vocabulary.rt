@@ -7,9 +7,9 @@ ghost use Rattle.store.specs.Meaning.{Meaning};
 
 use definition::ranged::Registers;
 use fault::Fault;
-use seat_dictionary::{dictionary_of, keep};
 use steps::faults::place;
 use steps::inside::ask_inside;
+use steps::seat_dictionary::{dictionary_of, keep};
 use vocabularies::seek;
 
 // The first head of a vocabulary lies behind its first parameter cell.

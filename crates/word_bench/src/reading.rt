@@ -3,7 +3,7 @@
 // the kernel words, up to DP, AT: an address and the bytes that lie there, BLK: and IN: where the text goes on, LOAD: blocks that are
 // loaded, each from there. What is not told is as boot leaves it, but for BLK, which is 3.
 use super::bench::Bench;
-use loads::loading::load_word;
+use block_words::loading::load_word;
 use numbers::read_number;
 use steps::cells::{self, Data, Returns};
 

@@ -1,25 +1,21 @@
 // LOAD, and the end of a load. The text goes on in block 3, where nothing else is told.
-use super::trying::{Row, tables_hold};
-use loads::loading::end_load;
+use super::trying::tables_hold;
+use block_words::loading::end_load;
 use std::process::Abort;
 use word_bench::bench::Bench;
 
-const OPENED: &[Row] = &[
-    ("LOAD", "9 5", Ok("9 LOAD: 3 BLK: 5")),
-    ("LOAD", "65535", Ok("LOAD: 3 BLK: 65535")),
-    ("LOAD", "3 IN: 7", Ok("IN: 7 LOAD: 3")),
-    (
-        "LOAD",
-        "5 LOAD: 3 3 3 3 3 3 3 IN: 1024",
-        Ok("LOAD: 3 3 3 3 3 3 3 IN: 1024 LOAD: 3 BLK: 5 IN: 0"),
-    ),
-    ("LOAD", "5 LOAD: 3 3 3 3 3 3 3 3", Err(25)),
-    ("LOAD", "9 0 IN: 7", Err(25)),
-    ("LOAD", "0 LOAD: 3 3 3 3 3 3 3", Err(25)),
-    ("LOAD", "0 LOAD: 3 3 3 3 3 3 3 3", Err(25)),
-    ("LOAD", "", Err(12)),
-    ("LOAD", "LOAD: 3 3 3 3 3 3 3 3", Err(12)),
-];
+const OPENED: &str = "
+LOAD | 9 5                            | 9 LOAD: 3 BLK: 5
+LOAD | 65535                          | LOAD: 3 BLK: 65535
+LOAD | 3 IN: 7                        | IN: 7 LOAD: 3
+LOAD | 5 LOAD: 3 3 3 3 3 3 3 IN: 1024 | LOAD: 3 3 3 3 3 3 3 IN: 1024 LOAD: 3 BLK: 5 IN: 0
+LOAD | 5 LOAD: 3 3 3 3 3 3 3 3        | fault 25
+LOAD | 9 0 IN: 7                      | fault 25
+LOAD | 0 LOAD: 3 3 3 3 3 3 3          | fault 25
+LOAD | 0 LOAD: 3 3 3 3 3 3 3 3        | fault 25
+LOAD |                                | fault 12
+LOAD | LOAD: 3 3 3 3 3 3 3 3          | fault 12
+";
 
 const NESTED: &str =
     "IN: 7 LOAD: 5 IN: 0 LOAD: 5 IN: 1024 LOAD: 9 IN: 100 LOAD: 65535 IN: 1 LOAD: 1 IN: 2 LOAD: 2 IN: 3 LOAD: 1 IN: 1023 LOAD: 4";

@@ -4,10 +4,15 @@ use std::process::Abort;
 use steps::progress::Progress;
 use word_bench::bench::{Bench, TOLD};
 
-// word, the machine before, and the machine after or the number of a fault, which changes nothing; nothing is typed
-pub(crate) type Row = (&'static str, &'static str, Result<&'static str, u8>);
+// A row of a table: a word, the machine before, and the machine after with what is typed, or the number of a fault, which changes nothing.
+#[derive(Clone, Copy)]
+struct Row<'a> {
+    word: &'a str,
+    before: &'a str,
+    after: Result<(&'a str, &'a str), u8>,
+}
 
-// The same with what is typed beside the machine after.
+// Where something is typed.
 pub(crate) type TypingRow = (
     &'static str,
     &'static str,
@@ -104,21 +109,42 @@ impl<'a> Benches<'a> {
     }
 }
 
+// `DUP | 7 | 7 7`, which types nothing, or `DUP | | fault 12`.
+fn row_of(line: &str) -> Option<Row<'_>> {
+    let (word, rest) = line.split_once('|')?;
+    let (before, after) = rest.split_once('|')?;
+    let after = after.trim();
+    let after = match after.strip_prefix("fault ") {
+        Some(number) => Err(number.parse().ok()?),
+        None => Ok((after, "")),
+    };
+    Some(Row {
+        word: word.trim(),
+        before: before.trim(),
+        after,
+    })
+}
+
 // All rows of the tables, each added to the text of its table.
-pub(crate) fn tables_hold(rt: &impl Abort, tables: &[(&str, &[Row])]) {
+pub(crate) fn tables_hold(rt: &impl Abort, tables: &[(&str, &str)]) {
     for &(base, rows) in tables {
         rows_hold(rt, base, rows);
     }
 }
 
-fn rows_hold(rt: &impl Abort, base: &str, rows: &[Row]) {
+fn rows_hold(rt: &impl Abort, base: &str, rows: &str) {
     let mut benches = Benches::on(base);
-    for &(word, before, after) in rows {
-        let left = match after {
-            Ok(after) => Ok((after, "")),
-            Err(number) => Err(number),
-        };
-        benches.types(rt, word, before, left);
+    for line in rows.split('\n') {
+        if !line.is_empty() {
+            row_holds(rt, &mut benches, line);
+        }
+    }
+}
+
+fn row_holds(rt: &impl Abort, benches: &mut Benches<'_>, line: &str) {
+    match row_of(line) {
+        Some(row) => benches.types(rt, row.word, row.before, row.after),
+        None => panic!(rt; "{line} is no row"),
     }
 }
 

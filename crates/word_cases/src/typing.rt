@@ -1,5 +1,5 @@
 // Words that type.
-use super::trying::{AMPLE, Benches, Row, TypingRow, tables_hold, typing_tables_hold};
+use super::trying::{AMPLE, Benches, TypingRow, tables_hold, typing_tables_hold};
 use steps::progress::Progress;
 
 const DECIMAL: &[TypingRow] = &[
@@ -37,12 +37,12 @@ const BASE_36: &[TypingRow] = &[
     ("U.", "-1", Ok(("", "1EKF "))),
 ];
 
-const NO_BASE: &[Row] = &[
-    (".", "5", Err(18)),
-    (".", "", Err(12)),
-    ("U.", "5", Err(18)),
-    ("U.", "", Err(12)),
-];
+const NO_BASE: &str = "
+.  | 5 | fault 18
+.  |   | fault 12
+U. | 5 | fault 18
+U. |   | fault 12
+";
 
 // With ABC in data space.
 const BYTES: &[TypingRow] = &[

@@ -1,5 +1,5 @@
 use Rattle.std.proofs.Common.{Ok, subst}
-use Rattle.asking.specs.Asking.{StateAnswers}
+use Rattle.steps.specs.Asking.{StateAnswers}
 use Rattle.compiling_words.specs.Numbers.{asks_of}
 use Rattle.compiling_words.proofs.Rows.{is_open}
 use Rattle.compiling_words.proofs.words.act.Goals as goal

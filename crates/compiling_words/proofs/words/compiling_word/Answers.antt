@@ -1,6 +1,6 @@
 use Rattle.std.proofs.lemmas.Result.{err_from_is_err_and}
 use Rattle.steps.specs.Does.{seen}
-use Rattle.asking.proofs.States.{bare, refused_so, done_so}
+use Rattle.steps.proofs.States.{bare, refused_so, done_so}
 use Rattle.compiling_words.specs.Numbers.{asks_of, compiling_number}
 use Rattle.compiling_words.proofs.Rows.{compiling_rows}
 use Rattle.compiling_words.proofs.words.compiling_word.Goals as goal

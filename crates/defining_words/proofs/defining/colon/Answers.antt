@@ -1,6 +1,6 @@
 use Rattle.std.proofs.lemmas.Result.{err_from_is_err_and}
 use Rattle.texts.specs.Names.{name_of}
-use Rattle.asking.proofs.Words.{not_ready}
+use Rattle.steps.proofs.Words.{not_ready}
 use Rattle.defining_words.proofs.Ends.{colon_full, colon_done}
 use Rattle.defining_words.proofs.defining.colon.Goals as goal
 

@@ -1,7 +1,7 @@
 use Rattle.std.proofs.lemmas.Result.{err_from_is_err_and}
 use Rattle.std.proofs.Common.{◌∙◌, arith}
 use Rattle.texts.specs.Names.{name_of}
-use Rattle.asking.proofs.Words.{not_ready}
+use Rattle.steps.proofs.Words.{not_ready}
 use Rattle.defining_words.proofs.Ends.{variable_full, variable_no_data, variable_not, variable_done, grown_below}
 use Rattle.defining_words.proofs.defining.variable.Goals as goal
 

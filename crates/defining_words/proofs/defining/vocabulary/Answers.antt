@@ -1,6 +1,6 @@
 use Rattle.std.proofs.lemmas.Result.{err_from_is_err_and}
 use Rattle.texts.specs.Names.{name_of}
-use Rattle.asking.proofs.Words.{not_ready}
+use Rattle.steps.proofs.Words.{not_ready}
 use Rattle.defining_words.proofs.Ends.{vocabulary_made}
 use Rattle.defining_words.proofs.defining.vocabulary.Goals as goal
 

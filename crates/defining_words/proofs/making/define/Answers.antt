@@ -7,7 +7,7 @@ use Rattle.dictionary.specs.Lent.{dict_of}
 use Rattle.dictionary.proofs.Growing.{le_bytes_are_cell}
 use Rattle.definition.specs.Define.{entry_size}
 use Rattle.texts.specs.Names.{name_of}
-use Rattle.appending.proofs.Spaces.{full, done}
+use Rattle.steps.proofs.Spaces.{full, done}
 use Rattle.defining_words.specs.Made.{code_of, value_of}
 use Rattle.defining_words.proofs.Made.{entry_made}
 use Rattle.defining_words.proofs.making.define.Goals as goal

@@ -5,7 +5,7 @@ use Rattle.dictionary.specs.Dict.{vocabulary_defined}
 use Rattle.dictionary.specs.Lent.{dict_of}
 use Rattle.definition.specs.Define.{entry_size}
 use Rattle.texts.specs.Names.{name_of}
-use Rattle.appending.proofs.Spaces.{full, done}
+use Rattle.steps.proofs.Spaces.{full, done}
 use Rattle.defining_words.proofs.Made.{vocabulary_made}
 use Rattle.defining_words.proofs.making.define_vocabulary.Goals as goal
 

@@ -3,9 +3,9 @@ use Rattle.std.proofs.lemmas.Result.{err_from_is_err_and}
 use Rattle.definition.specs.Kernel
 use Rattle.flow_words.specs.Numbers.{inline_number}
 use Rattle.steps.specs.Does.{seen}
-use Rattle.asking.proofs.States.{bare}
+use Rattle.steps.proofs.States.{bare}
 use Rattle.codes.proofs.Rows.{inline_rows}
-use Rattle.asking.proofs.States.{refused_so, done_so}
+use Rattle.steps.proofs.States.{refused_so, done_so}
 use Rattle.executing.proofs.running.reading.Goals as goal
 
 pub returns-in_err-ask_running : goal.returns-in_err-ask_running

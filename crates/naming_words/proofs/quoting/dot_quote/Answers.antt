@@ -1,6 +1,6 @@
 use Rattle.std.proofs.Common.{take}
 use Rattle.std.proofs.lemmas.Result.{err_from_is_err_and}
-use Rattle.asking.proofs.Words.{no_text, no_state}
+use Rattle.steps.proofs.Words.{no_text, no_state}
 use Rattle.texts.specs.Strings.{between}
 use Rattle.naming_words.proofs.Ends.{no_quote, quote, quoted_done}
 use Rattle.naming_words.proofs.quoting.dot_quote.Goals as goal

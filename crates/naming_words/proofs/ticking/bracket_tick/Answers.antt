@@ -1,5 +1,5 @@
 use Rattle.std.proofs.lemmas.Result.{err_from_is_err_and}
-use Rattle.asking.proofs.Words.{no_text, no_state}
+use Rattle.steps.proofs.Words.{no_text, no_state}
 use Rattle.naming_words.proofs.Ends.{literal_done}
 use Rattle.naming_words.proofs.ticking.bracket_tick.Goals as goal
 

@@ -1,5 +1,5 @@
 use Rattle.std.proofs.lemmas.Result.{err_from_is_err_and}
-use Rattle.asking.proofs.Words.{no_text}
+use Rattle.steps.proofs.Words.{no_text}
 use Rattle.naming_words.proofs.Ends.{no_paren, commented}
 use Rattle.naming_words.proofs.ticking.comment.Goals as goal
 

@@ -1,5 +1,5 @@
 use Rattle.std.proofs.lemmas.Result.{err_from_is_err_and}
-use Rattle.asking.proofs.Words.{no_text}
+use Rattle.steps.proofs.Words.{no_text}
 use Rattle.naming_words.proofs.Ends.{ticked}
 use Rattle.naming_words.proofs.ticking.tick.Goals as goal
 

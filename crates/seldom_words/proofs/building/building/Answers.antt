@@ -3,7 +3,7 @@ use Rattle.std.proofs.lemmas.Result.{err_from_is_err_and}
 use Rattle.definition.specs.Kernel
 use Rattle.control_words.specs.Numbers.{control_number}
 use Rattle.steps.specs.Does.{seen}
-use Rattle.asking.proofs.States.{bare, refused_so, done_so}
+use Rattle.steps.proofs.States.{bare, refused_so, done_so}
 use Rattle.codes.proofs.Rows.{control_rows}
 use Rattle.seldom_words.proofs.building.building.Goals as goal
 

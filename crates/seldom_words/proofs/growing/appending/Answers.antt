@@ -1,11 +1,11 @@
 use Rattle.std.proofs.Common.{[], ◌∷◌}
 use Rattle.std.proofs.lemmas.Result.{err_from_is_err_and}
 use Rattle.definition.specs.Kernel
-use Rattle.growing_words.specs.Numbers.{appending_number}
+use Rattle.space_words.specs.Numbers.{appending_number}
 use Rattle.steps.specs.Does.{seen}
-use Rattle.asking.proofs.States.{bare}
+use Rattle.steps.proofs.States.{bare}
 use Rattle.codes.proofs.Rows.{appending_rows}
-use Rattle.asking.proofs.States.{refused_so, done_so}
+use Rattle.steps.proofs.States.{refused_so, done_so}
 use Rattle.seldom_words.proofs.growing.appending.Goals as goal
 
 pub returns-in_err-ask_none_open-clause-did : goal.returns-in_err-ask_none_open-clause-did

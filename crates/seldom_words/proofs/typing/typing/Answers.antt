@@ -1,7 +1,7 @@
 use Rattle.std.proofs.Common.{[], refl}
 use Rattle.std.proofs.lemmas.Result.{err_from_is_err_and}
 use Rattle.steps.specs.Does.{seen}
-use Rattle.asking.proofs.States.{bare, refused_so, typed_so}
+use Rattle.steps.proofs.States.{bare, refused_so, typed_so}
 use Rattle.typing_words.specs.Numbers.{typing_number}
 use Rattle.codes.proofs.Lifting.{grows_nothing}
 use Rattle.seldom_words.specs.Asked.{typing_asks}

@@ -1,6 +1,6 @@
 use Rattle.std.proofs.Common.{Err, refl, subst}
 use Rattle.data_words.specs.Numbers.{divide_number}
-use Rattle.growing_words.specs.Numbers.{appending_number}
+use Rattle.space_words.specs.Numbers.{appending_number}
 use Rattle.block_words.specs.Buffers.{block_number}
 use Rattle.naming_words.specs.Numbers.{naming_number}
 use Rattle.compiling_words.specs.Numbers.{compiling_number}

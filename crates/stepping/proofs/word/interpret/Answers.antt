@@ -2,7 +2,7 @@ use Rattle.std.proofs.Common.{[], ◌∷◌, length}
 use Rattle.std.proofs.lemmas.Result.{err_from_is_err_and}
 use Rattle.dictionary.specs.Dict.{appended}
 use Rattle.definition.specs.Stacks.{replaced}
-use Rattle.appending.specs.Spaces.{in_space}
+use Rattle.steps.specs.Spaces.{in_space}
 use Rattle.stepping.proofs.WordEnds.{word_refused, pushes, compiles_token, compiles_number, acts_refused, acts_done}
 use Rattle.stepping.proofs.word.interpret.Goals as goal
 

@@ -1,3 +1,0 @@
-pub mod Spaces
-pub mod Bytes
-pub mod Answered

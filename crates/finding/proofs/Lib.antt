@@ -1,2 +1,0 @@
-pub mod Entering
-pub mod Answering

@@ -1,2 +1,0 @@
-pub mod Stacking
-pub mod Opening
