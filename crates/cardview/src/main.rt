@@ -8,8 +8,7 @@ mod words;
 use anyhow::{Context, bail};
 use kits::KitRefused;
 use std::{env, fs};
-use store::{MemoryCard, Store};
-use text_card::TextCard;
+use store::{MemoryCard, Store, TextCard};
 
 const USAGE: &str = "usage: cardview KIT CARD [words], or cardview words";
 

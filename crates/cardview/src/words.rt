@@ -20,7 +20,12 @@ fn list_vocabularies(rt: &HostRuntime, entries: &Entries<'_>, voclink: u16) -> a
     let dp = entries.end();
     let mut before = dp;
     let mut link = voclink;
-    'chain: while let Some(k) = vocabularies::next_vocabulary(dp, before, link, Place::nowhere())? {
+    'chain: while let Some(k) = dictionary::vocabularies::next_vocabulary(
+        dp,
+        before,
+        link,
+        Place::nowhere(),
+    )? {
         list_vocabulary(rt, entries, k - 8)?;
         before = k;
         link = entries.cell(k);

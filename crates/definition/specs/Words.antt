@@ -7,7 +7,7 @@ use Rattle.dictionary.specs.Dict.{with_context}
 use Rattle.entries.specs.Search.{search_in}
 use Rattle.dictionary.specs.Search.{searched}
 use Rattle.dictionary.specs.Trim.{can_forget, is_chain, on_chain}
-use Rattle.vocabularies.specs.Seeks.{stays}
+use Rattle.dictionary.specs.Seeks.{stays}
 use Rattle.definition.specs.Machine.{Machine, ip, dict_of, changed}
 use Rattle.definition.specs.Asked.{Asked, refused, given, ask, ◌>>=◌, ◌>>◌, After, quietly}
 use Rattle.definition.specs.Text.{Taken, take_name, take_to, ask_found, ask_there}

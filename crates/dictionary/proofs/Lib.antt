@@ -2,3 +2,4 @@ pub mod Orders
 pub mod Growing
 pub mod Changing
 pub mod Beginning
+pub mod Links

@@ -5,3 +5,4 @@ pub mod Begins
 pub mod Lent
 pub mod Trim
 pub mod Computes
+pub mod Seeks

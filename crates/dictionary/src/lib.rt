@@ -8,6 +8,7 @@ mod define;
 mod grow;
 mod order;
 pub mod registers;
+pub mod vocabularies;
 
 pub use define::Header;
 pub use order::FORTH;

@@ -46,7 +46,7 @@ impl Move {
             Move::GiveUp => Ok(d.give_up()),
             Move::Append(n) => d.append(image, &[0; 32768][..n.min(32768)], TOLD),
             Move::Allot(n) => allot(d, n),
-            Move::Seek(vocabulary) => vocabularies::seek(d, image, vocabulary, TOLD),
+            Move::Seek(vocabulary) => dictionary::vocabularies::seek(d, image, vocabulary, TOLD),
             Move::Definitions => Ok(d.definitions()),
             Move::Forget(name) => forget(d, image, name.as_bytes()),
             Move::Poke(a, x) => poke(image, a, x),

@@ -1,5 +1,7 @@
-// What boot leaves: the kernel words' entries, and the registers.
+// What boot leaves: the kernel words' entries, and the registers; and lines typed after it.
 #![tactic(auto)]
+
+pub mod example_lines;
 
 ghost use Rattle.std.specs.Prelude.{◌≡◌};
 ghost use Rattle.definition.specs.Boot.{fence};

@@ -1,13 +1,13 @@
 // Why a text cannot be a kit.
 ghost use Rattle.fault.specs.Numbers.{fault_of, place_of};
 ghost use Rattle.fault.specs.declared.Reason.TheVariants.{WrongLength};
-ghost use Rattle.text_card.specs.Texts.{is_text_card};
-ghost use Rattle.text_card.specs.Lines.{FirstLongLine};
+ghost use Rattle.store.specs.Texts.{is_text_card};
+ghost use Rattle.store.specs.Lines.{FirstLongLine};
 ghost use Rattle.std.specs.Prelude.{◌≡◌, true, false, MatchOption};
 
 use fault::Fault;
 use std::{error, fmt};
-use text_card::TextCard;
+use store::TextCard;
 
 // The store's fault, and the line that is too long, counted from 1, if that is the reason.
 #[derive(Clone, Copy, Debug)]
@@ -24,7 +24,7 @@ impl KitRefused {
         let fault = TextCard::query(text).err()?;
         Some(KitRefused {
             fault,
-            line: text_card::first_long_line(text),
+            line: store::first_long_line(text),
         })
     }
 }

@@ -2,9 +2,8 @@
 use fault::{Fault, Place};
 use std::alloc::{AllocError, Global};
 use std::test::Fail;
-use store::{MemoryCard, Store};
+use store::{MemoryCard, Store, TextCard, first_long_line};
 use switched_card::Switched;
-use text_card::{TextCard, first_long_line};
 
 const TOLD: Place = Place {
     blk: 3,

@@ -2,9 +2,8 @@
 use line_bench::bench::Bench;
 use line_bench::end::End;
 use std::alloc::{AllocError, Global};
-use store::{MemoryCard, Store};
+use store::{MemoryCard, Store, TextCard};
 use switched_card::Switched;
-use text_card::TextCard;
 
 // A line typed after boot, how it ends, in how many steps, what it types, and what is left.
 pub type Row = (&'static str, End, u32, &'static str, &'static str);

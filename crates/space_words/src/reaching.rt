@@ -21,7 +21,7 @@ pub fn reach(registers: &Registers, address: u16, n: u16) -> Result<(), Fault>
 
 // Writes the n low bytes of a cell at an address.
 #[tactic(auto, using(crate::proofs::Bytes::low_bytes))]
-pub fn put(image: &mut [u8; 65536], address: u16, n: u16, x: u16)
+pub(crate) fn put(image: &mut [u8; 65536], address: u16, n: u16, x: u16)
     requires { (n ≤ 2) × (address + n ≤ 65536) }
     ensures { image.new ≡ overwritten address (take n (cell x)) image.old }
 {

@@ -7,7 +7,7 @@ use Rattle.entries.specs.Entries.{first_at, token_of}
 use Rattle.dictionary.specs.Dict.{appended, does_set, with_context}
 use Rattle.dictionary.specs.Trim.{chain_of, is_chain, on_chain, member}
 use Rattle.numbers.specs.Cells.{wrap}
-use Rattle.vocabularies.specs.Seeks as seeks
+use Rattle.dictionary.specs.Seeks as seeks
 use Rattle.forgetting.specs.Changes.{does, seek, OnChain}
 use Rattle.forgetting.specs.Changes.{changed as changed_by}
 use Rattle.definition.specs.Machine.{Machine, dp, ip, with_ip, changed, dict_of}

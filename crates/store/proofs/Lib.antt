@@ -1,1 +1,5 @@
 pub mod BlockLaws
+pub mod CutLaws
+pub mod JoinLaws
+pub mod LineLaws
+pub mod TextLaws

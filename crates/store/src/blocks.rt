@@ -16,7 +16,7 @@ pub(crate) fn blocks_in(n: usize) -> Option<u16>
 }
 
 // How many blocks n bytes are; none where they are not whole.
-pub fn count_blocks(n: usize) -> u16
+pub(crate) fn count_blocks(n: usize) -> u16
     ensures { result ≡ whole_blocks n }
 {
     blocks_in(n).unwrap_or(0)
@@ -24,7 +24,12 @@ pub fn count_blocks(n: usize) -> u16
 
 // Fills `into` with block n of the bytes.
 #[tactic(auto, using(crate::proofs::BlockLaws::read_at))]
-pub fn read_block(bytes: &[u8], n: u16, into: &mut [u8; 1024], at: Place) -> Result<(), Fault>
+pub(crate) fn read_block(
+    bytes: &[u8],
+    n: u16,
+    into: &mut [u8; 1024],
+    at: Place,
+) -> Result<(), Fault>
     ensures { Reads (memory_card bytes.now) n into.old at result into.new }
 {
     if n >= count_blocks(bytes.len()) {

@@ -1,15 +1,18 @@
-// Block stores: what a store means, and a memory card over lent bytes.
+// Block stores: what a store means, a memory card over lent bytes, and a card over lines of text, sixteen lines a block, not writable.
 #![tactic(auto)]
 
 mod blocks;
+mod lines;
 mod memory_card;
+mod text_card;
 
 ghost use Rattle.std.specs.Prelude.{◌≡◌};
 ghost use Rattle.store.specs.Meaning.{Meaning, Reads, Sound, Writes};
 
-pub use blocks::{count_blocks, read_block};
 use fault::{Fault, Place};
+pub use lines::first_long_line;
 pub use memory_card::MemoryCard;
+pub use text_card::TextCard;
 
 // A count, writable or not, and that many blocks of 1,024 bytes.
 pub trait Store {

@@ -33,13 +33,6 @@ impl<'a> MemoryCard<'a> {
     {
         MemoryCard { bytes }
     }
-
-    // The bytes as they are now.
-    pub fn bytes(&self) -> &[u8]
-        ensures { result.now ≡ self.now.bytes.now }
-    {
-        &self.bytes[..]
-    }
 }
 
 impl<'a> Store for MemoryCard<'a> {

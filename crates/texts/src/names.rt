@@ -43,7 +43,7 @@ fn are_graphic(word: &[u8]) -> bool
 }
 
 // Is a word a name?
-pub fn is_name(word: &[u8]) -> bool
+pub(crate) fn is_name(word: &[u8]) -> bool
     ensures { result ≡ is_name word.now }
 {
     (1..=31).contains(&word.len()) && are_graphic(word)

@@ -88,7 +88,7 @@ pub fn take_word<'a>(registers: &mut Registers, image: &'a [u8; 65536]) -> Optio
 }
 
 // The bytes of the word just taken.
-pub fn last_word<'a>(registers: &Registers, image: &'a [u8; 65536]) -> &'a [u8]
+pub(crate) fn last_word<'a>(registers: &Registers, image: &'a [u8; 65536]) -> &'a [u8]
     requires { WordInside registers.now.seat }
     ensures { result.now ≡ word_in registers.now.seat image.now }
 {

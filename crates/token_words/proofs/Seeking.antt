@@ -9,7 +9,7 @@ use Rattle.dictionary.specs.declared.registers.Dictionary.{Dictionary}
 use Rattle.dictionary.specs.Dict.{Dict, with_context}
 use Rattle.dictionary.specs.Trim.{is_chain, on_chain}
 use Rattle.dictionary.specs.Lent as lent
-use Rattle.vocabularies.specs.Seeks.{stays, sought}
+use Rattle.dictionary.specs.Seeks.{stays, sought}
 use Rattle.definition.specs.declared.registers.Mark.{Mark}
 use Rattle.definition.specs.declared.ranged.Registers.{Registers}
 use Rattle.definition.specs.Machine.{Machine, told, dict_of, changed}

@@ -6,11 +6,11 @@ ghost use Rattle.steps.specs.Does.{Does, seen};
 ghost use Rattle.store.specs.Meaning.{Meaning};
 
 use definition::ranged::Registers;
+use dictionary::vocabularies::seek;
 use fault::Fault;
 use steps::faults::place;
 use steps::inside::ask_inside;
 use steps::seat_dictionary::{dictionary_of, keep};
-use vocabularies::seek;
 
 // The first head of a vocabulary lies behind its first parameter cell.
 fn first_head(token: u16) -> u16

@@ -1,8 +1,0 @@
--- The lines typed after boot, by computation.
-use mathlib.Core.Path.{refl}
-use Rattle.definition.specs.Computes.{machine_computes}
-use Rattle.example_lines.specs.Lines.{LinesStand, seen_on}
-
-pub lines_stand : LinesStand
-unfolding machine_computes seen_on
-lines_stand = refl

@@ -1,4 +1,0 @@
-pub mod CutLaws
-pub mod JoinLaws
-pub mod LineLaws
-pub mod TextLaws
