@@ -8,14 +8,14 @@ use Rattle.data_words.specs.declared.words.BinaryWord.{BinaryWord}
 use Rattle.data_words.specs.declared.words.DivideWord.{DivideWord}
 use Rattle.space_words.specs.declared.words.MemoryWord.{MemoryWord}
 use Rattle.space_words.specs.declared.words.AppendingWord.{AppendingWord}
-use Rattle.flow_words.specs.declared.words.ReturnsWord.{ReturnsWord}
-use Rattle.flow_words.specs.declared.words.InlineWord.{InlineWord}
+use Rattle.inner_words.specs.declared.words.ReturnsWord.{ReturnsWord}
+use Rattle.inner_words.specs.declared.words.InlineWord.{InlineWord}
 use Rattle.block_words.specs.declared.words.BlockWord.{BlockWord}
 use Rattle.control_words.specs.declared.words.ControlWord.{ControlWord}
 use Rattle.data_words.specs.Numbers.{stack_number, leaving_number, unary_number, binary_number, divide_number}
 use Rattle.space_words.specs.Numbers.{memory_number}
 use Rattle.space_words.specs.Numbers.{appending_number}
-use Rattle.flow_words.specs.Numbers.{returns_number, inline_number}
+use Rattle.inner_words.specs.Numbers.{returns_number, inline_number}
 use Rattle.block_words.specs.Buffers.{block_number}
 use Rattle.control_words.specs.Numbers.{control_number}
 use Rattle.steps.proofs.States.{Asking}

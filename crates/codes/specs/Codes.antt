@@ -4,7 +4,7 @@ use Rattle.block_words.specs.Buffers.{block_number}
 use Rattle.compiling_words.specs.Numbers.{compiling_number}
 use Rattle.control_words.specs.Numbers.{control_number}
 use Rattle.data_words.specs.Numbers.{stack_number, leaving_number, unary_number, binary_number, divide_number}
-use Rattle.flow_words.specs.Numbers.{returns_number, inline_number}
+use Rattle.inner_words.specs.Numbers.{returns_number, inline_number}
 use Rattle.space_words.specs.Numbers.{appending_number}
 use Rattle.naming_words.specs.Numbers.{naming_number}
 use Rattle.space_words.specs.Numbers.{memory_number}

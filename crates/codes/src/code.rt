@@ -3,7 +3,7 @@ use block_words::words::BlockWord;
 use compiling_words::words::CompilingWord;
 use control_words::words::ControlWord;
 use data_words::words::{BinaryWord, DivideWord, LeavingWord, StackWord, UnaryWord};
-use flow_words::words::{InlineWord, ReturnsWord};
+use inner_words::words::{InlineWord, ReturnsWord};
 use naming_words::words::NamingWord;
 use space_words::words::{AppendingWord, MemoryWord};
 use typing_words::words::TypingWord;

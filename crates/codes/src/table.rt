@@ -9,7 +9,7 @@ use control_words::words::ControlWord;
 use data_words::words::{BinaryWord, DivideWord, LeavingWord, StackWord, UnaryWord};
 use defining_words::words::DefiningWord;
 use dictionary::code;
-use flow_words::words::{InlineWord, ReturnsWord};
+use inner_words::words::{InlineWord, ReturnsWord};
 use naming_words::words::NamingWord;
 use space_words::words::{AppendingWord, MemoryWord};
 use typing_words::words::TypingWord;

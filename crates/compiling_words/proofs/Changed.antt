@@ -27,7 +27,7 @@ use Rattle.steps.specs.Seats.{told_by}
 use Rattle.steps.specs.Does.{seen, acts, IsRefused}
 use Rattle.steps.proofs.Exits.{refused_at}
 use Rattle.steps.proofs.Changing.{ReadOff, PutBack, read_back, changed_view}
-use Rattle.flow_words.proofs.Views.{PoppedReturns, Went, pop_return_view, go_view, has_returns_lem, lacks_returns}
+use Rattle.inner_words.proofs.Views.{PoppedReturns, Went, pop_return_view, go_view, has_returns_lem, lacks_returns}
 use Rattle.steps.specs.Spaces.{InSpace}
 use Rattle.steps.proofs.Answered.{spaced, full_stays}
 use Rattle.compiling_words.specs.Acting.{is_made, OnState}

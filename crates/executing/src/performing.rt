@@ -12,12 +12,12 @@ use data_words::two_cells::binary_word;
 use definition::ranged::Registers;
 use definition::registers::Mark;
 use fault::Fault;
+use inner_words::entering::{colon_word, does_word};
+use inner_words::tokens::{PushingWord, pushing_word};
 use seldom_words::words::seldom_word;
 use space_words::space::memory_word;
 use steps::progress::Progress;
 use store::Store;
-use token_words::entering::{colon_word, does_word};
-use token_words::tokens::{PushingWord, pushing_word};
 use typing_words::output::Output;
 
 // Does what the word of this code and token does; EXECUTE is gone through before. The words that run often come first.

@@ -1,13 +1,13 @@
 // Words on the return stack and words with a cell of their own: they ask for a running word (11).
 ghost use Rattle.std.specs.Prelude.{ℕ, List};
-ghost use Rattle.flow_words.specs.Numbers.{inline_number, returns_number};
+ghost use Rattle.inner_words.specs.Numbers.{inline_number, returns_number};
 ghost use Rattle.steps.specs.Does.{FromState};
 
 use definition::ranged::Registers;
 use fault::Fault;
-use flow_words::inline::inline_word;
-use flow_words::returning::returns_word;
-use flow_words::words::{InlineWord, ReturnsWord};
+use inner_words::inline::inline_word;
+use inner_words::returning::returns_word;
+use inner_words::words::{InlineWord, ReturnsWord};
 use steps::asking::ask_running;
 
 // EXIT >R R> R@ I J LEAVE

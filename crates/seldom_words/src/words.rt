@@ -17,12 +17,12 @@ use data_words::dividing::divide_word;
 use definition::ranged::Registers;
 use definition::registers::Mark;
 use fault::{Fault, Reason};
+use inner_words::tokens::body_word;
+use inner_words::vocabulary::vocabulary_word;
 use naming_words::naming::naming_word;
 use steps::faults::refusal;
 use steps::progress::Progress;
 use store::Store;
-use token_words::tokens::body_word;
-use token_words::vocabulary::vocabulary_word;
 use typing_words::output::Output;
 
 // ABORT is a fault itself.

@@ -1,7 +1,7 @@
 use Rattle.std.proofs.Common.{refl, subst}
 use Rattle.data_words.specs.Numbers.{stack_number, unary_number, binary_number, leaving_number}
 use Rattle.space_words.specs.Numbers.{memory_number}
-use Rattle.flow_words.specs.Numbers.{returns_number, inline_number}
+use Rattle.inner_words.specs.Numbers.{returns_number, inline_number}
 use Rattle.codes.specs.Codes.{Coded}
 use Rattle.codes.proofs.Groups.{cells_performs, space_performs, state_performs, other_performs}
 use Rattle.codes.proofs.Rows.{stack_rows_lem, unary_rows, binary_rows, memory_rows, leaving_rows, returns_rows, inline_rows}

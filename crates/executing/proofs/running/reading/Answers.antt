@@ -1,7 +1,7 @@
 use Rattle.std.proofs.Common.{[], ◌∷◌}
 use Rattle.std.proofs.lemmas.Result.{err_from_is_err_and}
 use Rattle.definition.specs.Kernel
-use Rattle.flow_words.specs.Numbers.{inline_number}
+use Rattle.inner_words.specs.Numbers.{inline_number}
 use Rattle.steps.specs.Does.{seen}
 use Rattle.steps.proofs.States.{bare}
 use Rattle.codes.proofs.Rows.{inline_rows}
