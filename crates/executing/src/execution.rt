@@ -1,5 +1,5 @@
 // A token, executed: EXECUTE is all one step with the word that it executes.
-ghost use Rattle.std.specs.Prelude.{◌≡◌, take};
+ghost use Rattle.std.specs.Prelude.{◌≡◌, length, take};
 ghost use Rattle.codes.specs.Performs.{memory, Acts};
 ghost use Rattle.definition.specs.Words.{execute};
 
@@ -26,6 +26,7 @@ pub fn execute<S: Store>(
 ) -> Result<Progress, Fault>
     ensures did { Acts (execute token) registers.old (memory image.old cells.old returns.old marks.old output.old.bytes.now output.old.typed (S.Store.means store.old)) result registers.new (memory image.new cells.new returns.new marks.new output.new.bytes.now output.new.typed (S.Store.means store.new)) }
     ensures below { take 256 image.new ≡ take 256 image.old }
+    ensures size { length output.new.bytes.now ≡ length output.old.bytes.now }
     ensures same_reference { output.new.bytes.ghost_name ≡ output.old.bytes.ghost_name }
 {
     let depth = registers.seat.depths.cells;

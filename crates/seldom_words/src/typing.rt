@@ -1,5 +1,5 @@
 // The words that type.
-ghost use Rattle.std.specs.Prelude.{◌≡◌};
+ghost use Rattle.std.specs.Prelude.{◌≡◌, length};
 ghost use Rattle.steps.specs.Asking.{StateAnswers};
 ghost use Rattle.seldom_words.specs.Asked.{typing_asks, FromOutput};
 ghost use Rattle.typing_words.specs.Numbers.{typing_number};
@@ -30,6 +30,7 @@ pub(crate) fn typing(
     output: &mut Output,
 ) -> Result<Progress, Fault>
     ensures did { FromOutput (typing_number word) registers.old image.now cells.now output.old.bytes.now output.old.typed result registers.new output.new.bytes.now output.new.typed }
+    ensures size { length output.new.bytes.now ≡ length output.old.bytes.now }
     ensures same_reference { output.new.bytes.ghost_name ≡ output.old.bytes.ghost_name }
 {
     ask_for_text(registers, word)?;

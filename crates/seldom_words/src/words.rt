@@ -1,5 +1,5 @@
 // Division, data space that grows, typing, blocks, names, compiling, and what has no code.
-ghost use Rattle.std.specs.Prelude.{◌≡◌, ◌≢◌, take};
+ghost use Rattle.std.specs.Prelude.{◌≡◌, ◌≢◌, length, take};
 ghost use Rattle.codes.specs.Codes.{SeldomCoded};
 ghost use Rattle.codes.specs.Performs.{memory, FullKeeps, Performs};
 ghost use Rattle.fault.specs.Numbers.{fault_of};
@@ -51,6 +51,7 @@ pub fn seldom_word<S: Store>(
     ensures did { Performs number token registers.old (memory image.old cells.old returns.old marks.old output.old.bytes.now output.old.typed (S.Store.means store.old)) result registers.new (memory image.new cells.new returns.new marks.new output.new.bytes.now output.new.typed (S.Store.means store.new)) }
     ensures full { FullKeeps result cells.old cells.new }
     ensures below { take 256 image.new ≡ take 256 image.old }
+    ensures size { length output.new.bytes.now ≡ length output.old.bytes.now }
     ensures same_reference { output.new.bytes.ghost_name ≡ output.old.bytes.ghost_name }
 {
     match word {

@@ -1,5 +1,5 @@
 // One step.
-ghost use Rattle.std.specs.Prelude.{◌≡◌, take};
+ghost use Rattle.std.specs.Prelude.{◌≡◌, length, take};
 ghost use Rattle.codes.specs.Performs.{memory};
 ghost use Rattle.stepping.specs.Lawful.{FaultKept, Lawful};
 ghost use Rattle.stepping.specs.Steps.{Starts, Steps, Tries};
@@ -44,6 +44,7 @@ fn attempt<S: Store>(
 ) -> Result<Progress, Fault>
     ensures did { Tries registers.old (memory image.old cells.old returns.old marks.old output.old.bytes.now output.old.typed (S.Store.means store.old)) result registers.new (memory image.new cells.new returns.new marks.new output.new.bytes.now output.new.typed (S.Store.means store.new)) }
     ensures below { take 256 image.new ≡ take 256 image.old }
+    ensures size { length output.new.bytes.now ≡ length output.old.bytes.now }
     ensures same_reference { output.new.bytes.ghost_name ≡ output.old.bytes.ghost_name }
 {
     let source = registers.seat.source;
@@ -76,6 +77,7 @@ pub fn step<S: Store>(
     ensures lawful { Lawful registers.old (memory image.old cells.old returns.old marks.old output.old.bytes.now output.old.typed (S.Store.means store.old)) result registers.new (memory image.new cells.new returns.new marks.new output.new.bytes.now output.new.typed (S.Store.means store.new)) }
     ensures kept { FaultKept registers.old (memory image.old cells.old returns.old marks.old output.old.bytes.now output.old.typed (S.Store.means store.old)) result registers.new (memory image.new cells.new returns.new marks.new output.new.bytes.now output.new.typed (S.Store.means store.new)) }
     ensures below { take 256 image.new ≡ take 256 image.old }
+    ensures size { length output.new.bytes.now ≡ length output.old.bytes.now }
     ensures same_reference { output.new.bytes.ghost_name ≡ output.old.bytes.ghost_name }
 {
     let done = attempt(registers, image, cells, returns, marks, output, store);

@@ -31,6 +31,7 @@ impl<'a> Output<'a> {
     // Types bytes, if they fit: a bool, of which the word makes its Progress; there is no value and no reason to tell.
     pub(crate) fn type_bytes(&mut self, bytes: &[u8]) -> bool
         ensures types { Types self.old.bytes.now self.old.typed bytes.now result self.new.bytes.now self.new.typed }
+        ensures size { length self.new.bytes.now ≡ length self.old.bytes.now }
         ensures same_reference { self.new.bytes.ghost_name ≡ self.old.bytes.ghost_name }
     {
         if !self.has_space(bytes.len()) {
@@ -43,6 +44,7 @@ impl<'a> Output<'a> {
     // Types n blanks, if they fit.
     pub(crate) fn type_blanks(&mut self, n: usize) -> bool
         ensures types { Types self.old.bytes.now self.old.typed (replicate n 32) result self.new.bytes.now self.new.typed }
+        ensures size { length self.new.bytes.now ≡ length self.old.bytes.now }
         ensures same_reference { self.new.bytes.ghost_name ≡ self.old.bytes.ghost_name }
     {
         if !self.has_space(n) {

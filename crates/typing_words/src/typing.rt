@@ -1,5 +1,5 @@
 // Typing numbers, bytes and blanks.
-ghost use Rattle.std.specs.Prelude.{◌≡◌, ◌+◌, ◌%◌, ◌≤◌, true, false, [], ◌∷◌, ◌++◌, replicate, take, slice_index};
+ghost use Rattle.std.specs.Prelude.{◌≡◌, ◌+◌, ◌%◌, ◌≤◌, true, false, [], ◌∷◌, ◌++◌, length, replicate, take, slice_index};
 ghost use Rattle.fault.specs.declared.Reason.TheVariants.{BadBase, BadToken};
 ghost use Rattle.image.specs.Cells.{cell_at};
 ghost use Rattle.numbers.specs.Text.{is_base};
@@ -67,6 +67,7 @@ fn number(
     signed: bool,
 ) -> Result<Progress, Fault>
     ensures did { OnOutput (number_word signed) registers.old image.now cells.now output.old.bytes.now output.old.typed result registers.new output.new.bytes.now output.new.typed }
+    ensures size { length output.new.bytes.now ≡ length output.old.bytes.now }
     ensures same_reference { output.new.bytes.ghost_name ≡ output.old.bytes.ghost_name }
 {
     cells::need::<Data>(registers, 1)?;
@@ -92,6 +93,7 @@ fn emit(
     output: &mut Output,
 ) -> Result<Progress, Fault>
     ensures did { OnOutput 51 registers.old image.now cells.now output.old.bytes.now output.old.typed result registers.new output.new.bytes.now output.new.typed }
+    ensures size { length output.new.bytes.now ≡ length output.old.bytes.now }
     ensures same_reference { output.new.bytes.ghost_name ≡ output.old.bytes.ghost_name }
 {
     cells::need::<Data>(registers, 1)?;
@@ -114,6 +116,7 @@ fn type_space(
     output: &mut Output,
 ) -> Result<Progress, Fault>
     ensures did { OnOutput 52 registers.old image.now cells.now output.old.bytes.now output.old.typed result registers.new output.new.bytes.now output.new.typed }
+    ensures size { length output.new.bytes.now ≡ length output.old.bytes.now }
     ensures same_reference { output.new.bytes.ghost_name ≡ output.old.bytes.ghost_name }
 {
     cells::need::<Data>(registers, 2)?;
@@ -133,6 +136,7 @@ fn new_line(
     output: &mut Output,
 ) -> Result<Progress, Fault>
     ensures did { OnOutput 53 registers.old image.now cells.now output.old.bytes.now output.old.typed result registers.new output.new.bytes.now output.new.typed }
+    ensures size { length output.new.bytes.now ≡ length output.old.bytes.now }
     ensures same_reference { output.new.bytes.ghost_name ≡ output.old.bytes.ghost_name }
 {
     let fitted = output.type_bytes(b"\r\n");
@@ -146,6 +150,7 @@ fn spaces(
     output: &mut Output,
 ) -> Result<Progress, Fault>
     ensures did { OnOutput 54 registers.old image.now cells.now output.old.bytes.now output.old.typed result registers.new output.new.bytes.now output.new.typed }
+    ensures size { length output.new.bytes.now ≡ length output.old.bytes.now }
     ensures same_reference { output.new.bytes.ghost_name ≡ output.old.bytes.ghost_name }
 {
     cells::need::<Data>(registers, 1)?;
@@ -180,6 +185,7 @@ fn type_text(
     output: &mut Output,
 ) -> Result<Progress, Fault>
     ensures did { OnOutput 105 registers.old image.now cells.now output.old.bytes.now output.old.typed result registers.new output.new.bytes.now output.new.typed }
+    ensures size { length output.new.bytes.now ≡ length output.old.bytes.now }
     ensures same_reference { output.new.bytes.ghost_name ≡ output.old.bytes.ghost_name }
 {
     let n = text_length(registers, image)?;
@@ -201,6 +207,7 @@ pub fn typing_word(
     output: &mut Output,
 ) -> Result<Progress, Fault>
     ensures did { OnOutput (typing_number word) registers.old image.now cells.now output.old.bytes.now output.old.typed result registers.new output.new.bytes.now output.new.typed }
+    ensures size { length output.new.bytes.now ≡ length output.old.bytes.now }
     ensures same_reference { output.new.bytes.ghost_name ≡ output.old.bytes.ghost_name }
 {
     match word {

@@ -34,5 +34,6 @@ returns-in_default g c =
     record {
       did = acts_on (execute c.args.token) (coded again c.in_ok-found.found.code c.in_ok-found.found.token) c.args.registers.now r1 (memory c.args.image.now c.args.cells.now c.args.returns.now c.args.marks.now c.args.output.now.bytes.now c.args.output.now.typed (g.S.Store.means c.args.store.now)) e c.perform.new.registers (memory c.perform.new.image c.perform.new.cells c.perform.new.returns c.perform.new.marks c.perform.new.output.bytes.now c.perform.new.output.typed (g.S.Store.means c.perform.new.store)) c.in_ok-progress.progress c.in_default.not-Full (h.did again);
       below = h.below;
+      size = h.size;
       same_reference = h.same_reference;
     }

@@ -34,5 +34,6 @@ returns-in_default g c =
     record {
       did = executes_on c.args.registers.now c.start.new.registers c.args.image.now c.args.cells.now c.start.new.image c.start.new.cells (g.S.Store.means c.args.store.now) (g.S.Store.means c.start.new.store) c.args.returns.now c.args.marks.now c.args.output.now.bytes.now c.args.output.now.typed c.in-Execute.token (subst (λ y. Starts c.args.registers.now c.args.image.now c.args.cells.now (g.S.Store.means c.args.store.now) (Ok y) c.start.new.registers c.start.new.image c.start.new.cells (g.S.Store.means c.start.new.store)) c.in-Execute.is c.in_ok-start.ensures.did) c.execute.new.registers (memory c.execute.new.image c.execute.new.cells c.execute.new.returns c.execute.new.marks c.execute.new.output.bytes.now c.execute.new.output.typed (g.S.Store.means c.execute.new.store)) c.in_ok-progress.progress c.in_default.not-Full h.did;
       below = h.below ∙ c.in_ok-start.ensures.below;
+      size = h.size;
       same_reference = h.same_reference;
     }
