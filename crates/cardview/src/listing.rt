@@ -4,6 +4,8 @@ use std::io;
 use store::Store;
 
 // Block numbers are counted: a store is asked by them. A line for each block: its number, its first line and how many lines are used; answers how many are in all.
+// Never inlined: its buffer would lie on the stack while the files are opened.
+#[inline(never)]
 pub fn list<S: Store>(rt: &HostRuntime, card: &S) -> anyhow::Result<usize> {
     let mut buffer = [0u8; 1024];
     let mut used = 0usize;

@@ -14,8 +14,9 @@ const USAGE: &str = "usage: cardview KIT CARD [words], or cardview words";
 
 fn main(rt: HostRuntime) -> anyhow::Result<()> {
     let rt = &rt;
-    let mut args = env::args(rt)?.skip(1);
-    let first = args.next().context(USAGE)?;
+    let mut args = env::args(rt)?;
+    // Behind the program's own name.
+    let first = args.nth(1).context(USAGE)?;
     if first.as_str() == "words" {
         return words::list_booted(rt);
     }
@@ -41,10 +42,10 @@ fn put(rt: &HostRuntime, kit_file: &str, card_file: &str) -> anyhow::Result<()> 
 // The kit in a file, as a card, or why it is refused.
 fn kit_in(rt: &HostRuntime, file: &str) -> anyhow::Result<TextCard> {
     let text = fs::read(rt, file)?;
-    match KitRefused::of(text.as_slice()) {
-        Some(refused) => Err(refused.into()),
-        None => Ok(TextCard::new(rt.alloc(), text.as_slice())?),
+    if let Some(refused) = KitRefused::of(text.as_slice()) {
+        return Err(refused.into());
     }
+    Ok(TextCard::new(rt.alloc(), text.as_slice())?)
 }
 
 // Copies a kit to a card file, and answers how many blocks that are.

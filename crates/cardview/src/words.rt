@@ -6,11 +6,14 @@ use entries::Entries;
 use fault::Place;
 use std::io;
 
-// The words that boot leaves.
+// The words that boot leaves. Never inlined: what it holds on the stack is not to lie there while a kit is put on a card.
+#[inline(never)]
 pub fn list_booted(rt: &HostRuntime) -> anyhow::Result<()> {
-    let mut image = [0; 65536];
-    let d = kernel::boot(&mut image);
-    list_vocabularies(rt, &d.entries(&image), d.names.voclink)
+    // On the heap: the stack may be smaller than an image.
+    let mut bytes = vec![in rt.alloc(); 0u8; 65536]?;
+    let image = bytes.as_mut_array().unwrap();
+    let d = kernel::boot(image);
+    list_vocabularies(rt, &d.entries(image), d.names.voclink)
 }
 
 // Every vocabulary on the chain, the youngest first.
