@@ -98,7 +98,8 @@ fn with_digit(base: u16, value: u16, byte: u8) -> Option<u16>
     ensures { result ≡ up_to 65535 (λ n. n) (value_of base value (byte ∷ [])) }
 {
     let digit = char::from(byte).to_digit(u32::from(base))?;
-    value.checked_mul(base)?.checked_add(digit as u16)
+    // In 32 bits: two checked steps in 16 take twice the time.
+    u16::try_from(u32::from(value) * u32::from(base) + digit).ok()
 }
 
 // The value of one or more digits, where it is in a cell.
